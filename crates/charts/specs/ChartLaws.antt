@@ -1,0 +1,81 @@
+-- What a chart shows after a reset and any readings, newest first: its three sums are those of its terms, and its alarms stand exactly where some run says so.
+use mathlib.Core.Path.{_≡_, refl, sym, ap, _∙_}
+use mathlib.Core.Bool.{Bool, true, false, _&&_}
+use mathlib.Core.List.{List, [], _∷_, map}
+use Prim.Native.Nat.{ℕ, suc, _+_, _*_}
+use native.Mathlib.Numerals.{add-one}
+use lib.IntN.{ℤ, pos}
+use lib.ListN.{length}
+use Rattle.charts.specs.Tests.{Answers}
+use Rattle.charts.specs.Sums.{empty, added}
+use Rattle.charts.specs.Charts.{risingTerm, fallingTerm, precisionTerm, driftLimit, precisionLimit, over, alarmsOf, adjustmentOf, resetOf, appliedOf}
+use Rattle.charts.specs.Runs.{Alarm, rising, falling, precision, newest, terms, limitOf, Stands}
+use Rattle.charts.specs.RunLaws.{summed, Shows, shows, over-answers}
+use Rattle.charts.specs.declared.Sum.{Sum}
+use Rattle.charts.specs.declared.Chart.{Chart}
+use Rattle.charts.specs.declared.Alarms.{Alarms}
+
+-- the chart after readings with the differences ds, newest first
+unfoldable pub afterReadings : ℕ → Chart → List ℤ → Chart
+afterReadings s c [] = c
+afterReadings s c (d ∷ ds) = appliedOf (afterReadings s c ds) s d
+
+abbrev pub sumOf : Alarm → Chart → Sum
+sumOf rising c = c .rising
+sumOf falling c = c .falling
+sumOf precision c = c .precision
+
+abbrev pub alarmOf : Alarm → Alarms → Bool
+alarmOf rising a = a .rising
+alarmOf falling a = a .falling
+alarmOf precision a = a .precision
+
+-- what the chart is after a reset and these readings, in closed form but for the adjustments
+pub record Charted (s : ℕ) (ds : List ℤ) (c : Chart) : Type 0 where
+  pub started : c .started ≡ true
+  pub readings : c .readings ≡ length ds
+  pub last : c .last ≡ newest ds
+  pub sums : (a : Alarm) → sumOf a c ≡ summed (terms a s ds)
+
+pub reset-charted : (s : ℕ) (c : Chart) → Charted s [] (resetOf c)
+unfolding resetOf summed
+reset-charted s c = record { started = refl; readings = refl; last = refl; sums = nothing }
+  where
+    nothing : (a : Alarm) → sumOf a (resetOf c) ≡ summed (terms a s [])
+    nothing rising = refl
+    nothing falling = refl
+    nothing precision = refl
+
+pub applied-charted : (s : ℕ) (ds : List ℤ) (c : Chart) (d : ℤ) → Charted s ds c → Charted s (d ∷ ds) (appliedOf c s d)
+unfolding appliedOf summed
+applied-charted s ds c d C = record { started = C .started; readings = rw (C .readings) (add-one (length ds)); last = refl; sums = more }
+  where
+    more : (a : Alarm) → sumOf a (appliedOf c s d) ≡ summed (terms a s (d ∷ ds))
+    more rising = ap (λ (u : Sum). added u (risingTerm s d)) (C .sums rising)
+    more falling = ap (λ (u : Sum). added u (fallingTerm s d)) (C .sums falling)
+    more precision = rw (C .last, C .sums precision)
+
+pub charted : (s : ℕ) (c : Chart) (ds : List ℤ) → Charted s ds (afterReadings s (resetOf c) ds)
+unfolding afterReadings
+charted s c [] = reset-charted s c
+charted s c (d ∷ ds) = applied-charted s ds (afterReadings s (resetOf c) ds) d (charted s c ds)
+
+-- each sum and its count name a run, and no run sums higher
+pub chart-shows : (a : Alarm) (s : ℕ) (ds : List ℤ) (c : Chart) → Charted s ds c → Shows (sumOf a c) (terms a s ds)
+chart-shows a s ds c C = rw (C .sums a) (shows (terms a s ds))
+
+-- an alarm of a started chart is its sum over its limit
+shown : (a : Alarm) (s : ℕ) (c : Chart) → c .started ≡ true → alarmOf a (alarmsOf c s) ≡ over (limitOf a s) (sumOf a c)
+unfolding alarmsOf
+shown rising s c e = ap (λ (b : Bool). b && over (driftLimit s) (c .rising)) e
+shown falling s c e = ap (λ (b : Bool). b && over (driftLimit s) (c .falling)) e
+shown precision s c e = ap (λ (b : Bool). b && over (precisionLimit s) (c .precision)) e
+
+-- THE ALARM THEOREM: an alarm stands exactly if some run of its terms sums over its limit
+pub alarm-answers : (a : Alarm) (s : ℕ) (ds : List ℤ) (c : Chart) → Charted s ds c → Answers (alarmOf a (alarmsOf c s)) (Stands a s ds)
+unfolding Stands
+alarm-answers a s ds c C = rw (shown a s c (C .started)) (over-answers (limitOf a s) (sumOf a c) (terms a s ds) (chart-shows a s ds c C))
+
+-- for a chart that was reset, and then given readings
+pub alarms-after : (a : Alarm) (s : ℕ) (c : Chart) (ds : List ℤ) → Answers (alarmOf a (alarmsOf (afterReadings s (resetOf c) ds) s)) (Stands a s ds)
+alarms-after a s c ds = alarm-answers a s ds (afterReadings s (resetOf c) ds) (charted s c ds)

@@ -1,0 +1,79 @@
+-- Paper 01, 'Charts (7.2-7.6)': a chart of three sums. s is the standard deviation that the setting has for the chart.
+use mathlib.Core.Bool.{Bool, true, false, _&&_}
+use Prim.Native.Nat.{ℕ, _+_, _*_}
+use lib.Dec.{ltb}
+use lib.IntN.{ℤ, pos, negℤ, natAbs, _+ℤ_, _-ℤ_, _*ℤ_}
+use Rattle.charts.specs.Tests.{if_then_else_}
+use Rattle.charts.specs.Rounding.{nearOf}
+use Rattle.charts.specs.Sums.{empty, added}
+use Rattle.charts.specs.declared.Sum.{Sum}
+use Rattle.charts.specs.declared.Chart.{Chart}
+use Rattle.charts.specs.declared.Alarms.{Alarms}
+
+-- ---- what a reading adds to each sum; d is the reading less its reference
+
+-- P, in thousandths
+abbrev pub risingTerm : ℕ → ℤ → ℤ
+risingTerm s d = pos 1000 *ℤ d -ℤ pos (501 * s)
+
+-- M, in thousandths
+abbrev pub fallingTerm : ℕ → ℤ → ℤ
+fallingTerm s d = negℤ (pos 1000 *ℤ d) -ℤ pos (501 * s)
+
+-- V, in twentieths, from the step: d less the last difference
+abbrev pub precisionTerm : ℕ → ℤ → ℤ
+precisionTerm s step = pos 10 *ℤ (step *ℤ step) -ℤ pos (37 * (s * s))
+
+-- ---- the limits, and what exceeds them
+
+abbrev pub driftLimit : ℕ → ℕ
+driftLimit s = 2850 * s
+
+abbrev pub precisionLimit : ℕ → ℕ
+precisionLimit s = 138 * (s * s)
+
+-- An alarm stands where its sum is over the limit, not at it.
+abbrev pub over : ℕ → Sum → Bool
+over limit u = ltb limit (u .value)
+
+-- The three alarms. A chart that is not started shows none.
+unfoldable pub alarmsOf : Chart → ℕ → Alarms
+alarmsOf c s = record {
+  rising = c .started && over (driftLimit s) (c .rising);
+  falling = c .started && over (driftLimit s) (c .falling);
+  precision = c .started && over (precisionLimit s) (c .precision);
+}
+
+-- The adjustment at a drift alarm, from the sum and its count after the reading: near(7(501·s·n + sum)/(10000·n)). Without an alarm 0.
+-- (The quotient is not below 0, so that its magnitude is itself.)
+unfoldable pub adjustmentOf : ℕ → Sum → ℕ
+adjustmentOf s u =
+    if over (driftLimit s) u then natAbs (nearOf (pos (7 * (501 * s * u .count + u .value))) (pos (10000 * u .count)))
+    else 0
+
+-- ---- the chart
+
+-- A chart that was never reset: all its figures are 0.
+unfoldable pub blank : Chart
+blank = record { started = false; readings = 0; last = pos 0; rising = empty; falling = empty; precision = empty; downward = 0; upward = 0 }
+
+-- A reset starts the chart and makes all its figures 0, whatever they were.
+unfoldable pub resetOf : Chart → Chart
+resetOf c = record { started = true; readings = 0; last = pos 0; rising = empty; falling = empty; precision = empty; downward = 0; upward = 0 }
+
+-- A reading with difference d.
+unfoldable pub appliedOf : Chart → ℕ → ℤ → Chart
+appliedOf c s d =
+    let P : Sum = added (c .rising) (risingTerm s d) in
+    let M : Sum = added (c .falling) (fallingTerm s d) in
+    let W : Sum = added (c .precision) (precisionTerm s (d -ℤ c .last)) in
+    record {
+      started = c .started;
+      readings = c .readings + 1;
+      last = d;
+      rising = P;
+      falling = M;
+      precision = W;
+      downward = adjustmentOf s P;
+      upward = adjustmentOf s M;
+    }

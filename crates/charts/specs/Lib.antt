@@ -1,0 +1,13 @@
+pub mod Integers
+pub mod SignedLocals
+pub mod Tests
+pub mod Rounding
+pub mod RoundingLaws
+pub mod Sums
+pub mod Charts
+pub mod Runs
+pub mod RunLaws
+pub mod ChartLaws
+pub mod Soundness
+pub mod SoundnessLaws
+pub mod CodeLaws
