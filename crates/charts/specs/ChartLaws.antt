@@ -4,12 +4,14 @@ use mathlib.Core.Bool.{Bool, true, false, _&&_}
 use mathlib.Core.List.{List, [], _∷_, map}
 use Prim.Native.Nat.{ℕ, suc, _+_, _*_}
 use native.Mathlib.Numerals.{add-one}
-use lib.IntN.{ℤ, pos}
+use native.Mathlib.Omega.{arith}
+use lib.IntN.{ℤ, pos, negℤ, _-ℤ_, _*ℤ_}
+use Rattle.charts.specs.Integers.{prod, up-neg, dn-neg, ud-eq}
 use lib.ListN.{length}
 use Rattle.charts.specs.Tests.{Answers}
 use Rattle.charts.specs.Sums.{empty, added}
-use Rattle.charts.specs.Charts.{risingTerm, fallingTerm, precisionTerm, driftLimit, precisionLimit, over, alarmsOf, adjustmentOf, resetOf, appliedOf}
-use Rattle.charts.specs.Runs.{Alarm, rising, falling, precision, newest, terms, limitOf, Stands}
+use Rattle.charts.specs.Charts.{risingTerm, fallingTerm, precisionTerm, driftLimit, precisionLimit, over, alarmsOf, adjustmentOf, blank, resetOf, appliedOf}
+use Rattle.charts.specs.Runs.{Alarm, rising, falling, precision, RunOver, newest, driftTerm, terms, limitOf, Stands}
 use Rattle.charts.specs.RunLaws.{summed, Shows, shows, over-answers}
 use Rattle.charts.specs.declared.Sum.{Sum}
 use Rattle.charts.specs.declared.Chart.{Chart}
@@ -30,7 +32,7 @@ alarmOf rising a = a .rising
 alarmOf falling a = a .falling
 alarmOf precision a = a .precision
 
--- what the chart is after a reset and these readings, in closed form but for the adjustments
+-- what the chart is after a reset and these readings; its adjustments follow from its sums
 pub record Charted (s : ℕ) (ds : List ℤ) (c : Chart) : Type 0 where
   pub started : c .started ≡ true
   pub readings : c .readings ≡ length ds
@@ -46,13 +48,20 @@ reset-charted s c = record { started = refl; readings = refl; last = refl; sums 
     nothing falling = refl
     nothing precision = refl
 
+-- the chart's term for a falling drift is that for a rising one with the sign turned
+turned : (s : ℕ) (d : ℤ) → fallingTerm s d ≡ driftTerm s (negℤ d)
+turned s d =
+    let e : negℤ (pos 1000 *ℤ d) ≡ pos 1000 *ℤ negℤ d =
+    ud-eq (omega (arith, prod (pos 1000) d, prod (pos 1000) (negℤ d), up-neg d, dn-neg d, up-neg (pos 1000 *ℤ d), dn-neg (pos 1000 *ℤ d))) in
+    ap (λ (z : ℤ). z -ℤ pos (501 * s)) e
+
 pub applied-charted : (s : ℕ) (ds : List ℤ) (c : Chart) (d : ℤ) → Charted s ds c → Charted s (d ∷ ds) (appliedOf c s d)
 unfolding appliedOf summed
 applied-charted s ds c d C = record { started = C .started; readings = rw (C .readings) (add-one (length ds)); last = refl; sums = more }
   where
     more : (a : Alarm) → sumOf a (appliedOf c s d) ≡ summed (terms a s (d ∷ ds))
     more rising = ap (λ (u : Sum). added u (risingTerm s d)) (C .sums rising)
-    more falling = ap (λ (u : Sum). added u (fallingTerm s d)) (C .sums falling)
+    more falling = rw (C .sums falling, turned s d)
     more precision = rw (C .last, C .sums precision)
 
 pub charted : (s : ℕ) (c : Chart) (ds : List ℤ) → Charted s ds (afterReadings s (resetOf c) ds)
@@ -60,7 +69,7 @@ unfolding afterReadings
 charted s c [] = reset-charted s c
 charted s c (d ∷ ds) = applied-charted s ds (afterReadings s (resetOf c) ds) d (charted s c ds)
 
--- each sum and its count name a run, and no run sums higher
+-- each sum and its count, where above 0, name a run, and no run sums higher
 pub chart-shows : (a : Alarm) (s : ℕ) (ds : List ℤ) (c : Chart) → Charted s ds c → Shows (sumOf a c) (terms a s ds)
 chart-shows a s ds c C = rw (C .sums a) (shows (terms a s ds))
 
@@ -71,6 +80,9 @@ shown rising s c e = ap (λ (b : Bool). b && over (driftLimit s) (c .rising)) e
 shown falling s c e = ap (λ (b : Bool). b && over (driftLimit s) (c .falling)) e
 shown precision s c e = ap (λ (b : Bool). b && over (precisionLimit s) (c .precision)) e
 
+none-stands : (limit : ℕ) → Answers false (RunOver (pos limit) [])
+none-stands limit = record { sure = λ t. absurd t; back = λ r. let k = r .some in let l = r .there in absurd (omega arith) }
+
 -- THE ALARM THEOREM: an alarm stands exactly if some run of its terms sums over its limit
 pub alarm-answers : (a : Alarm) (s : ℕ) (ds : List ℤ) (c : Chart) → Charted s ds c → Answers (alarmOf a (alarmsOf c s)) (Stands a s ds)
 unfolding Stands
@@ -79,3 +91,10 @@ alarm-answers a s ds c C = rw (shown a s c (C .started)) (over-answers (limitOf 
 -- for a chart that was reset, and then given readings
 pub alarms-after : (a : Alarm) (s : ℕ) (c : Chart) (ds : List ℤ) → Answers (alarmOf a (alarmsOf (afterReadings s (resetOf c) ds) s)) (Stands a s ds)
 alarms-after a s c ds = alarm-answers a s ds (afterReadings s (resetOf c) ds) (charted s c ds)
+
+-- a chart that was never reset has no readings, so no run and no alarm
+pub blank-answers : (a : Alarm) (s : ℕ) → Answers (alarmOf a (alarmsOf blank s)) (Stands a s [])
+unfolding alarmsOf blank Stands
+blank-answers rising s = none-stands (limitOf rising s)
+blank-answers falling s = none-stands (limitOf falling s)
+blank-answers precision s = none-stands (limitOf precision s)

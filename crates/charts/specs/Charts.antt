@@ -1,4 +1,4 @@
--- Paper 01, 'Charts (7.2-7.6)': a chart of three sums. s is the standard deviation that the setting has for the chart.
+-- Paper 01, 'Charts (7.2-7.6)': a chart of three sums, of differences in hundredths of mg/m³. s is what the setting has for the chart.
 use mathlib.Core.Bool.{Bool, true, false, _&&_}
 use Prim.Native.Nat.{ℕ, _+_, _*_}
 use lib.Dec.{ltb}
@@ -36,7 +36,7 @@ precisionLimit s = 138 * (s * s)
 abbrev pub over : ℕ → Sum → Bool
 over limit u = ltb limit (u .value)
 
--- The three alarms. A chart that is not started shows none.
+-- The three alarms; all off ahead of the first reset.
 unfoldable pub alarmsOf : Chart → ℕ → Alarms
 alarmsOf c s = record {
   rising = c .started && over (driftLimit s) (c .rising);
@@ -44,8 +44,8 @@ alarmsOf c s = record {
   precision = c .started && over (precisionLimit s) (c .precision);
 }
 
--- The adjustment at a drift alarm, from the sum and its count after the reading: near(7(501·s·n + sum)/(10000·n)). Without an alarm 0.
--- (The quotient is not below 0, so that its magnitude is itself.)
+-- By how much to adjust at a drift alarm, from the sum and its count n as the reading leaves them; 0 where they show no alarm.
+-- (A sum over the limit has a count above 0, and the quotient is not negative, so that its magnitude is itself.)
 unfoldable pub adjustmentOf : ℕ → Sum → ℕ
 adjustmentOf s u =
     if over (driftLimit s) u then natAbs (nearOf (pos (7 * (501 * s * u .count + u .value))) (pos (10000 * u .count)))
@@ -57,11 +57,11 @@ adjustmentOf s u =
 unfoldable pub blank : Chart
 blank = record { started = false; readings = 0; last = pos 0; rising = empty; falling = empty; precision = empty; downward = 0; upward = 0 }
 
--- A reset starts the chart and makes all its figures 0, whatever they were.
+-- After a reset the chart is started, and nothing of its figures is left.
 unfoldable pub resetOf : Chart → Chart
 resetOf c = record { started = true; readings = 0; last = pos 0; rising = empty; falling = empty; precision = empty; downward = 0; upward = 0 }
 
--- A reading with difference d.
+-- A reading with difference d. `downward` is to be taken off (P), `upward` to be added (M).
 unfoldable pub appliedOf : Chart → ℕ → ℤ → Chart
 appliedOf c s d =
     let P : Sum = added (c .rising) (risingTerm s d) in

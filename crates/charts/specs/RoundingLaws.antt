@@ -53,7 +53,7 @@ near-half n m h =
     })
     (near-floor n m h)
 
--- a + u is v * m, u below m: so many whole m are below a
+-- suc a + u is v * m, u below m: v - 1 whole m are in a
 up-to : (a m u v : ℕ) → u < m → suc a + u ≡ v * m → a / m + 1 ≡ v
 up-to a m u zero h e = absurd (omega arith)
 up-to a m u (suc v) h e = omega (arith, div-eq-of-lt-le {k = v} m {m = a} (omega arith) (omega arith))
@@ -122,7 +122,7 @@ near-is n (pos m) h =
       high = ud-lt (omega (arith, lt-ud (F .high)));
     }
 
--- what lies between the two bounds is one number only
+-- a larger numerator has no smaller nearest number, and one numerator has one
 pub near-order : {n n′ d p q : ℤ} → pos 0 <ℤ d → n ≤ℤ n′ → IsNear n d p → IsNear n′ d q → p ≤ℤ q
 near-order {d = negsuc m} h k P Q = absurd (h .lt)
 near-order {n} {n′} {d = pos m} {p} {q} h k P Q =
@@ -189,13 +189,17 @@ near-bound n (pos m) k h b =
     let low : negℤ (pos k) ≤ℤ q = rw (near-whole (negℤ (pos k)) (pos m) h) at bottom in
     omega (arith, le-ud high, le-ud low, up-neg (pos k), dn-neg (pos k), abs-ud q, one-zero q)
 
--- what is not below 0 stays so
+near-zero : (m : ℕ) → pos 0 <ℤ pos m → nearOf (pos 0) (pos m) ≡ pos 0
+near-zero m h = let z : pos 0 *ℤ pos m ≡ pos 0 = ap pos (omega arith) in ap (λ (v : ℤ). nearOf v (pos m)) (sym z) ∙ near-whole (pos 0) (pos m) h
+
+-- what is not below 0 stays so, and what is not above 0 too
 pub near-nonneg : (n d : ℤ) → pos 0 <ℤ d → pos 0 ≤ℤ n → pos 0 ≤ℤ nearOf n d
 near-nonneg n (negsuc m) h k = absurd (h .lt)
-near-nonneg n (pos m) h k =
-    let z : pos 0 *ℤ pos m ≡ pos 0 = ap pos (omega arith) in
-    let e : nearOf (pos 0) (pos m) ≡ pos 0 = ap (λ (v : ℤ). nearOf v (pos m)) (sym z) ∙ near-whole (pos 0) (pos m) h in
-    rw e at (near-mono (pos m) h k)
+near-nonneg n (pos m) h k = rw (near-zero m h) at (near-mono (pos m) h k)
+
+pub near-nonpos : (n d : ℤ) → pos 0 <ℤ d → n ≤ℤ pos 0 → nearOf n d ≤ℤ pos 0
+near-nonpos n (negsuc m) h k = absurd (h .lt)
+near-nonpos n (pos m) h k = rw (near-zero m h) at (near-mono (pos m) h k)
 
 -- from quotient and remainder: the quotient where the remainder is below half of d, else one more
 pub near-quotient : (n d : ℕ) → 0 < d → n % d < d - n % d → pos (n / d) ≡ nearOf (pos n) (pos d)

@@ -1,10 +1,10 @@
--- The mission's statement 3, for one chart: which alarms stand, said of the readings since the reset and of no running sum.
+-- The mission's statement 3, for one chart: which alarms stand, said of the readings since the reset.
+-- The mission's numbers stand here once more, and nothing of the chart's own definitions: no running sum, no term, no limit.
 use mathlib.Core.List.{List, [], _∷_, map}
 use Prim.Native.Nat.{ℕ, _*_, _<_, _≤_}
-use lib.IntN.{ℤ, pos, _+ℤ_, _-ℤ_}
+use lib.IntN.{ℤ, pos, negℤ, _+ℤ_, _-ℤ_, _*ℤ_}
 use lib.ListN.{take, length}
 use lib.Signed.{_<ℤ_}
-use Rattle.charts.specs.Charts.{risingTerm, fallingTerm, precisionTerm, driftLimit, precisionLimit}
 
 -- ---- runs, in a list of terms that has the newest first
 
@@ -27,8 +27,8 @@ abbrev pub newest : List ℤ → ℤ
 newest [] = pos 0
 newest (d ∷ ds) = d
 
--- Each reading's step: its difference less the one before it among all these readings, of the first the difference itself.
--- Where a run starts does not matter.
+-- The steps: from each difference to the next, over all readings since the reset and whichever of them a run takes in.
+-- The first is the step from zero.
 abbrev pub steps : List ℤ → List ℤ
 steps [] = []
 steps (d ∷ ds) = (d -ℤ newest ds) ∷ steps ds
@@ -36,17 +36,25 @@ steps (d ∷ ds) = (d -ℤ newest ds) ∷ steps ds
 pub data Alarm : Type 0 where
   rising falling precision : Alarm
 
--- 1000 times a difference less 0.501 s; the same with the sign turned; 20 times a halved squared step less 1.85 s²
-abbrev pub terms : Alarm → ℕ → List ℤ → List ℤ
-terms rising s ds = map (risingTerm s) ds
-terms falling s ds = map (fallingTerm s) ds
-terms precision s ds = map (precisionTerm s) (steps ds)
+-- 1000(d - 0.501 s)
+abbrev pub driftTerm : ℕ → ℤ → ℤ
+driftTerm s d = pos 1000 *ℤ d -ℤ pos (501 * s)
 
--- 1000 times 2.85 s, and 20 times 6.90 s²
+-- 20(step²/2 - 1.85 s²)
+abbrev pub stepTerm : ℕ → ℤ → ℤ
+stepTerm s step = pos 10 *ℤ (step *ℤ step) -ℤ pos (37 * (s * s))
+
+-- falling is rising with the sign turned
+abbrev pub terms : Alarm → ℕ → List ℤ → List ℤ
+terms rising s ds = map (driftTerm s) ds
+terms falling s ds = map (driftTerm s) (map negℤ ds)
+terms precision s ds = map (stepTerm s) (steps ds)
+
+-- 1000 · 2.85 s, and 20 · 6.90 s²
 abbrev pub limitOf : Alarm → ℕ → ℕ
-limitOf rising s = driftLimit s
-limitOf falling s = driftLimit s
-limitOf precision s = precisionLimit s
+limitOf rising s = 2850 * s
+limitOf falling s = 2850 * s
+limitOf precision s = 138 * (s * s)
 
 -- The alarm stands: some run of its terms sums over its limit.
 unfoldable pub Stands : Alarm → ℕ → List ℤ → Type 0

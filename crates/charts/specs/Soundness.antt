@@ -1,4 +1,5 @@
--- The range in which a chart's arithmetic fits its fields. No chart leaves it that was reset and given at most 100,000 readings (paper 01, 'Charts (7.2-7.6)').
+-- The range in which a chart's arithmetic fits its fields: the code's own, with no sentence of paper 01.
+-- No chart leaves it that was reset and given at most 100,000 readings with differences in range ('Charts (7.2-7.6)').
 use mathlib.Core.Bool.{Bool, _&&_}
 use Prim.Native.Nat.{ℕ, _*_, _≤_}
 use lib.Dec.{leb}
@@ -23,7 +24,7 @@ ranged-answers d =
     (λ p. record { low = p .0; high = p .1 })
     (λ r. (r .low, r .high))
 
--- a sum whose every term is at most `most`, among so many readings
+-- a sum of at most so many terms as there are readings, and of at most `most` for each term
 pub record Within (most readings : ℕ) (u : Sum) : Type 0 where
   pub counted : u .count ≤ readings
   pub bounded : u .value ≤ most * u .count
@@ -38,7 +39,7 @@ within-answers most readings u =
     (λ p. record { counted = p .0; bounded = p .1 })
     (λ r. (r .counted, r .bounded))
 
--- the largest term of each sum
+-- what no term of each sum exceeds
 abbrev pub mostRising : ℕ
 mostRising = 400000000
 

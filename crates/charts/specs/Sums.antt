@@ -9,8 +9,8 @@ use Rattle.charts.specs.declared.Sum.{Sum}
 unfoldable pub empty : Sum
 empty = record { value = 0; count = 0 }
 
--- A term is added. A sum above 0 is kept, and its count rises by one; any other becomes 0, with its count.
--- (The sum kept is above 0, so that its magnitude is the sum itself.)
+-- One term more: what is then above 0 stays, one reading longer; otherwise sum and count start again from nothing.
+-- (Where it stays, its magnitude is the sum itself.)
 unfoldable pub added : Sum → ℤ → Sum
 added u t =
     if ltZ (pos 0) (pos (u .value) +ℤ t) then record { value = natAbs (pos (u .value) +ℤ t); count = u .count + 1 }

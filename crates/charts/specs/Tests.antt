@@ -51,3 +51,10 @@ answers-ltZ a b = record { sure = λ t. ltZ-yes t; back = λ h. h .lt }
 -- the same question in other words
 pub answers-as : {b : Bool} {P Q : Type 0} → Answers b P → (P → Q) → (Q → P) → Answers b Q
 answers-as e f g = record { sure = λ t. f (e .sure t); back = λ q. e .back (g q) }
+
+-- two tests of one question are the same
+pub same-answer : {a b : Bool} {P : Type 0} → Answers a P → Answers b P → a ≡ b
+same-answer {a = true} {b = true} e f = refl
+same-answer {a = true} {b = false} e f = absurd (f .back (e .sure tt))
+same-answer {a = false} {b = true} e f = absurd (e .back (f .sure tt))
+same-answer {a = false} {b = false} e f = refl

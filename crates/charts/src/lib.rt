@@ -8,7 +8,7 @@ ghost use Rattle.charts.specs.Charts.{adjustmentOf, alarmsOf, appliedOf,
 ghost use Rattle.charts.specs.Soundness.{Ranged, Sound, rangedOf, soundOf, withinOf};
 ghost use Rattle.charts.specs.CodeLaws.{apartOf};
 
-// The whole number nearest to n / d, halves going up, for a signed numerator. The remainder is brought into 0..d by adding d.
+// The whole number nearest to n / d, halves going up, for a signed numerator. The remainder is made not negative by adding d.
 pub fn near(n: i64, d: i64) -> i64
     requires { ⌜ (natAbs n ≤ 2 ^ 62) × (pos 0 <ℤ d) × (natAbs d ≤ 2 ^ 61) ⌝ }
     ensures { λ r. ⌜ r ≡ nearOf n d ⌝ }
@@ -200,7 +200,7 @@ pub fn ranged(d: i32) -> bool
     (-800000 <= d) & (d <= 400000)
 }
 
-// Whether a sum has at most as many terms as there are readings, each at most `most`.
+// Whether a sum has at most as many terms as there are readings, and a value of at most `most` for each.
 fn within(u: Sum, most: u64, readings: u32) -> bool
     requires { ⌜ (most ≤ 14400000000000) × (readings ≤ 100000) ⌝ }
     ensures { λ r. ⌜ r ≡ withinOf most readings u ⌝ }

@@ -6,7 +6,7 @@ use Prim.Native.Nat.{_*_, _≤_}
 use native.Mathlib.Omega.{arith}
 use native.Mathlib.Nat.{mul-le-mul}
 use lib.IntN.{natAbs}
-use Rattle.charts.specs.Charts.{adjustmentOf}
+use Rattle.charts.specs.Charts.{driftLimit, adjustmentOf}
 use Rattle.charts.proofs.adjustment.Statement.{statement}
 use Rattle.charts.proofs.adjustment.Tie as tie
 use Rattle.charts.proofs.adjustment.Reads as reads
@@ -21,7 +21,7 @@ mul-if1 c = search needs
 
 returns : tie.Need-returns
 unfolding adjustmentOf
-returns c = simp (le-ltb _ _ (c .if1 .taken))
+returns c = let a = c .before .args in simp (le-ltb (driftLimit (a .s)) (a .value) (omega arith))
 
 mul-near-unsigned : tie.Need-mul-near-unsigned
 mul-near-unsigned c = search needs
@@ -43,7 +43,7 @@ near-unsigned-requires c κs = search needs
 
 returns-2 : tie.Need-returns-2
 unfolding adjustmentOf
-returns-2 c = simp (lt-ltb _ _ (c .before .if1 .left)) (ap natAbs (c .near-unsigned .ensures))
+returns-2 c = let a = c .before .before .args in simp (lt-ltb (driftLimit (a .s)) (a .value) (omega arith)) (ap natAbs (c .near-unsigned .ensures))
 
 pub adjustment-spec : {M : Type 1} → statement M
 adjustment-spec =

@@ -20,7 +20,7 @@ sub-if1 : tie.Need-sub-if1
 sub-if1 c = omega (arith, below c)
 
 returns : tie.Need-returns
-returns c = near-quotient (c .before .args .n) (c .before .args .d) (c .before .pre) (c .if1 .taken)
+returns c = near-quotient (c .before .args .n) (c .before .args .d) (c .before .pre) (omega arith)
 
 add-result : tie.Need-add-result
 add-result c =
@@ -28,7 +28,7 @@ add-result c =
     omega (arith, div-add-mod' (a .n) (a .d), below (c .before), mul-le-mul-left {m = 2} {n = a .d} (a .n / a .d) (omega (arith, below (c .before))))
 
 returns-2 : tie.Need-returns-2
-returns-2 c = near-next (c .before .args .n) (c .before .args .d) (c .before .pre) (c .if1 .left)
+returns-2 c = near-next (c .before .args .n) (c .before .args .d) (c .before .pre) (omega arith)
 
 pub near-unsigned-spec : {M : Type 1} → statement M
 near-unsigned-spec = tie.close (tie.spec div-q rem-r sub-if1 returns add-result returns-2)

@@ -49,7 +49,8 @@ rising-is : (c : tie.After-add) → let a = start (c .before) .args in c .add .r
 rising-is c =
     let a = start (c .before) .args in
     let r = raised-at (c .before) in
-    c .add .ensures ∙ ap (added (a .self .rising)) (sym (rising-code (a .s) 800000 (r .raised .result) (a .d) (x-is r)))
+    let e : c .add .result ≡ added (a .self .rising) (pos (1000 * r .raised .result) -ℤ pos (800000000 + 501 * a .s)) = c .add .ensures in
+    e ∙ ap (added (a .self .rising)) (sym (rising-code (a .s) 800000 (r .raised .result) (a .d) (x-is r)))
 
 falling-is : (c : tie.After-add2) → let a = start (c .before .before) .args in c .add2 .result ≡ added (a .self .falling) (fallingTerm (a .s) (a .d))
 falling-is c =
