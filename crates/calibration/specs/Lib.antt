@@ -1,0 +1,16 @@
+pub mod Pairs
+pub mod Conditions
+pub mod Calibration
+pub mod Annual
+pub mod PairLaws
+pub mod ConditionLaws
+pub mod CodeLaws
+pub mod ListLaws
+pub mod FitLaws
+pub mod SumLaws
+pub mod SpanLaws
+pub mod ResidualLaws
+pub mod DispersionLaws
+pub mod VerdictLaws
+pub mod Cases
+pub mod FitRange
