@@ -1,0 +1,5 @@
+pub mod ByteLoops
+pub mod SignedLaws
+pub mod ApplyLaws
+pub mod PairLoops
+pub mod StateLaws

@@ -1,0 +1,167 @@
+-- What the accepted records say, and nothing else: paper 01, 'Charts', 'Calibration', 'Weeks and calls (6.4.4)' and 'Usable', and the mission's statement 3.
+-- A history is the list of accepted records, newest first, so that "since the last" is plain recursion.
+use mathlib.Core.Path.{_≡_}
+use mathlib.Core.Bool.{Bool, true, false, not, _&&_, _||_}
+use mathlib.Core.List.{List, [], _∷_, _++_, map}
+use mathlib.Core.Option.{Option, none, some, Option·getD}
+use Prim.Native.Nat.{ℕ, zero, suc, _+_, _-_, _*_, _/_, _≤_}
+use lib.Dec.{leb, ltb, eqb}
+use lib.IntN.{ℤ, pos, _-ℤ_}
+use lib.ListN.{length}
+use Rattle.charts.specs.Tests.{if_then_else_}
+use Rattle.charts.specs.Runs.{Alarm, Stands}
+use Rattle.records.specs.Lists.{since, those, any}
+use Rattle.records.specs.Record.{Record, minute, settingOf, differenceOf, waitingOf, functionOf}
+use Rattle.records.specs.Kinds.{Point, noSetting, atZero, atSpan, reads, resets, sets, pairs, empties, calibrates, passes, fails, values, deviationOf, weekOf, outsideBy, exceeds}
+use Rattle.records.specs.Table.{Facts, refusalIn}
+use Rattle.records.specs.declared.state.Setting.{Setting}
+use Rattle.records.specs.declared.state.Waiting.{Waiting}
+use Rattle.records.specs.declared.state.Function.{Function}
+use Rattle.records.specs.declared.state.Calibration.{Calibration}
+use Rattle.records.specs.declared.state.Calibration.the-variants.{Absent, InForce}
+
+abbrev pub History : Type 0
+History = List Record
+
+-- ---- the setting and the time
+
+unfoldable pub settingIn : History → Setting
+settingIn [] = noSetting
+settingIn (r ∷ h) = if sets r then settingOf r else settingIn h
+
+-- the last record's minute, 0 before the first
+abbrev pub lastMinute : History → ℕ
+lastMinute [] = 0
+lastMinute (r ∷ h) = minute r
+
+-- ---- charts
+
+abbrev pub startedIn : Point → History → Bool
+startedIn c h = any (resets c) h
+
+-- the differences of a chart's readings after its last reset, newest first; with no reset there are none
+unfoldable pub differencesIn : Point → History → List ℤ
+differencesIn c h = if startedIn c h then map differenceOf (those (reads c) (since (resets c) h)) else []
+
+-- an alarm of a chart: some run of its readings says so
+abbrev pub AlarmStands : Point → Alarm → History → Type 0
+AlarmStands c a h = Stands a (deviationOf c (settingIn h)) (differencesIn c h)
+
+-- ---- pairs and the function in force
+
+-- the pairs that wait, oldest first
+unfoldable pub pendingIn : History → List Waiting
+pendingIn [] = []
+pendingIn (r ∷ h) =
+    if empties r then []
+    else if pairs r then pendingIn h ++ (waitingOf r ∷ [])
+    else pendingIn h
+
+-- the newest passed calibration, with its stored figures
+unfoldable pub functionIn : History → Calibration
+functionIn [] = Absent
+functionIn (r ∷ h) = if calibrates r then InForce (functionOf r) else functionIn h
+
+-- ---- weeks
+
+-- of how many records of the period p holds, the period being what came after the last passed closing; p may look at the records before
+abbrev pub tally : (History → Record → Bool) → History → ℕ
+tally p [] = 0
+tally p (r ∷ h) = if passes r then 0 else if p h r then suc (tally p h) else tally p h
+
+-- a value of week w
+abbrev pub valueOfWeek : ℕ → History → Record → Bool
+valueOfWeek w h r = values r && eqb (weekOf (minute r)) w
+
+-- a value of week w that was outside when it was applied
+abbrev pub outsideOfWeek : ℕ → History → Record → Bool
+outsideOfWeek w h r = valueOfWeek w h r && outsideBy (functionIn h) (settingIn h) r
+
+unfoldable pub totalIn : ℕ → History → ℕ
+totalIn w h = tally (valueOfWeek w) h
+
+unfoldable pub outsideIn : ℕ → History → ℕ
+outsideIn w h = tally (outsideOfWeek w) h
+
+-- week w of the period is over so many percent
+abbrev pub weekExceeds : ℕ → History → ℕ → Bool
+weekExceeds percent h w = exceeds percent (outsideIn w h) (totalIn w h)
+
+-- how many weeks before week n the test p holds of
+abbrev pub weeksBelow : (ℕ → Bool) → ℕ → ℕ
+weeksBelow p zero = 0
+weeksBelow p (suc n) = if p n then suc (weeksBelow p n) else weeksBelow p n
+
+abbrev pub lastWeek : History → ℕ
+lastWeek h = weekOf (lastMinute h)
+
+-- how many weeks of the period, before the last record's, are over 5 percent
+unfoldable pub weeksOver : History → ℕ
+weeksOver h = weeksBelow (weekExceeds 5 h) (lastWeek h)
+
+-- ---- calls for a new calibration
+
+-- r is of a later week than the records before it
+abbrev pub turns : History → Record → Bool
+turns h r = ltb (lastWeek h) (weekOf (minute r))
+
+-- The week before that of r, judged on r, raises a call: over 40 percent, or the sixth of its period over 5 percent.
+unfoldable pub weekCalls : History → Record → Bool
+weekCalls h r = turns h r && (weekExceeds 40 h (lastWeek h) || weekExceeds 5 h (lastWeek h) && eqb (weeksOver h) 5)
+
+-- the minutes of the calls since the last passed calibration, newest first: of a record's own two, its failed closing is newer than the week judged on it
+unfoldable pub callsIn : History → List ℕ
+callsIn [] = []
+callsIn (r ∷ h) =
+    if calibrates r then []
+    else (if fails r then minute r ∷ [] else []) ++ (if weekCalls h r then minute r ∷ [] else []) ++ callsIn h
+
+-- the last of a list
+abbrev pub oldest : List ℕ → Option ℕ
+oldest [] = none
+oldest (m ∷ ms) = some (Option·getD (oldest ms) m)
+
+unfoldable pub firstCall : History → Option ℕ
+firstCall h = oldest (callsIn h)
+
+-- ---- usable
+
+-- the minute of the passed calibration; whether a first call, if any, is young enough
+abbrev pub minuteOf : Calibration → Option ℕ
+minuteOf Absent = none
+minuteOf (InForce f) = some (f .minute)
+
+abbrev pub Aged : ℕ → ℕ → Option ℕ → Type 0
+Aged limit m none = Unit {0}
+Aged limit m (some from) = m - from ≤ limit
+
+-- no alarm stands, the last passed calibration is at most 1,826 days old, and the first call since it, if any, at most 183
+pub record Usable (h : History) : Type 0 where
+  pub quiet : (c : Point) (a : Alarm) → ¬ AlarmStands c a h
+  pub from : ℕ
+  pub inForce : minuteOf (functionIn h) ≡ some from
+  pub young : lastMinute h - from ≤ 2629440
+  pub called : Aged 263520 (lastMinute h) (firstCall h)
+
+-- ---- the table's rows, asked of a history
+
+abbrev pub begunIn : History → Bool
+begunIn [] = false
+begunIn (r ∷ h) = true
+
+unfoldable pub factsIn : History → Facts
+factsIn h = record {
+  begun = begunIn h;
+  minute = lastMinute h;
+  setting = settingIn h;
+  zeroStarted = startedIn atZero h;
+  zeroReadings = length (differencesIn atZero h);
+  spanStarted = startedIn atSpan h;
+  spanReadings = length (differencesIn atSpan h);
+  pending = pendingIn h;
+  calibration = functionIn h;
+}
+
+-- the refusal of a next record, 0 for none
+abbrev pub refusalOf : History → Record → ℕ
+refusalOf h r = refusalIn (factsIn h) r
