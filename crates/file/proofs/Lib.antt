@@ -1,0 +1,4 @@
+pub mod Table
+pub mod CheckTable
+pub mod CheckLoop
+pub mod TakeLaws

@@ -1,0 +1,15 @@
+pub mod Check
+pub mod CheckLaws
+pub mod Blocks
+pub mod BlockLaws
+pub mod FormLaws
+pub mod BlockRoundTrip
+pub mod Taking
+pub mod Calls
+pub mod CallsLaws
+pub mod Statement
+pub mod StatementLaws
+pub mod RoundTrip
+pub mod Answered
+pub mod TakingLaws
+pub mod FormingLaws
