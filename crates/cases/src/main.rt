@@ -1,0 +1,13 @@
+// Runs worked cases of each layer and prints what the code answers, a line for each. The file `stdout` has what must come out.
+// Its numbers were not taken from a run: they were worked out from the formulas of paper 01, by a few lines of Python over whole
+// numbers and fractions (near(x) as floor(x + 1/2); a sum and its count as (sum, count + 1) where the sum is above 0, else (0, 0)).
+mod calibration_cases;
+mod charts_cases;
+mod print;
+mod rounding_cases;
+
+fn main() {
+    rounding_cases::run();
+    charts_cases::run();
+    calibration_cases::run();
+}
