@@ -30,7 +30,7 @@ T-not-not : (b : Bool) → T (not (not b)) → T b
 T-not-not true t = t
 T-not-not false t = t
 
-T-true : (b : Bool) → T b → b ≡ true
+pub T-true : (b : Bool) → T b → b ≡ true
 T-true true t = refl
 T-true false t = absurd t
 

@@ -2,6 +2,7 @@ pub mod Pairs
 pub mod Conditions
 pub mod Calibration
 pub mod Annual
+pub mod LentList
 pub mod PairLaws
 pub mod ConditionLaws
 pub mod CodeLaws
@@ -12,5 +13,6 @@ pub mod SpanLaws
 pub mod ResidualLaws
 pub mod DispersionLaws
 pub mod VerdictLaws
+pub mod LentListLaws
 pub mod Cases
 pub mod FitRange

@@ -10,6 +10,8 @@ ghost use Rattle.calibration.specs.Conditions.{standardOf, timesOf};
 ghost use Rattle.calibration.specs.Pairs.{AllRanged, Between, ConditionsRanged, OxygenRanged, PairRanged, RequirementsRanged, ZRanged, betweenOf, conditionsRangedOf, pairRangedOf, requirementsRangedOf, zRangedOf};
 ghost use Rattle.calibration.specs.Calibration.{LineRanged, beyondOf, cOf, calibratedOf, countFits, deviationsOf, divisorOf, farOf, fitFrom, fitOf, flatOf, higherOf, interceptOf, kOf, lineFits, lineRangedOf, lowerOf, measuredOf, plusOf, qOf, refusedFit, residualsOf, riseOf, slopeOf, slopeRangedOf, someBeyond, spanOf, sumsOf, topOf, valueOf, variedOf, widenedOf};
 ghost use Rattle.calibration.specs.Annual.{annualCountFits, annualKOf, annualVariedOf, functionOf, refusedTest, tOf, testOf};
+ghost use Rattle.calibration.specs.LentList.{fitListOf};
+ghost use Rattle.calibration.specs.LentListLaws.{gatherOf, gatheredFit, gatheredNone};
 ghost use Rattle.calibration.specs.CodeLaws.{SumsRanged, dispersionOf, slopeCode, withResidualOf};
 
 // A concentration in analyser conditions.
@@ -75,6 +77,13 @@ pub struct Fitted {
     pub line: Line,
     pub top: Standard,
     pub count: u32,
+}
+
+// What is kept of a lent list: its first thirty pairs, their count (31 where there are more), and whether all of its pairs are in range.
+struct Gathered {
+    pairs: [Pair; 30],
+    count: u32,
+    ranged: bool,
 }
 
 // The outcome of an annual test: a refusal (0 for none), or the two verdicts.
@@ -603,4 +612,76 @@ pub fn annual_test(pairs: [Pair; 30], n: u32, q: Requirements, l: Line) -> Teste
         ),
         function: function_holds(n, r.sum, dispersed, sigma),
     }
+}
+
+// ---- a lent list of pairs
+
+fn gather_none() -> Gathered
+    ensures { λ r. ⌜ r ≡ gatheredNone ⌝ }
+{
+    let p = Pair {
+        signal: 0,
+        srm: Actual(0),
+        conditions: Conditions {
+            temperature: 0,
+            pressure: 0,
+            water: 0,
+            oxygen: 0,
+        },
+    };
+    Gathered {
+        pairs: [p; 30],
+        count: 0,
+        ranged: true,
+    }
+}
+
+// One pair more. Every pair is tested; past thirty none is kept.
+fn gather(g: Gathered, p: Pair) -> Gathered
+    ensures { λ r. ⌜ r ≡ gatherOf g p ⌝ }
+{
+    let ranged = g.ranged & pair_ranged(p);
+    let i = g.count;
+    if 30 <= i {
+        return Gathered {
+            count: 31,
+            ranged: ranged,
+            ..g
+        };
+    }
+    let mut h = g;
+    h.pairs[i as usize] = p;
+    h.count = i + 1;
+    h.ranged = ranged;
+    h
+}
+
+// 13, then 20 where there are more than thirty, then the fit.
+fn fit_gathered(g: Gathered, q: Requirements, z: i32) -> Fitted
+    requires { ⌜ (g .ranged ≡ true → AllRanged (take (g .count) (g .pairs))) ⌝ }
+    ensures { λ r. ⌜ r ≡ gatheredFit g q z ⌝ }
+{
+    let n = g.count;
+    let ranged = (requirements_ranged(q) & z_ranged(z)) & g.ranged;
+    if !ranged {
+        return refused_fit(13);
+    }
+    if 30 < n {
+        return refused_fit(20);
+    }
+    let pairs = g.pairs;
+    fit(pairs, n, q, z)
+}
+
+// The calibration's outcome, from a lent list of pairs of any length.
+pub fn fit_list(pairs: &[Pair], q: Requirements, z: i32) -> Fitted
+    ensures { λ r. ⌜ r ≡ fitListOf q z (now (pairs .entry)) ⌝ }
+{
+    let mut g = gather_none();
+    let mut i: usize = 0;
+    while i < pairs.len() {
+        g = gather(g, pairs[i]);
+        i = i + 1;
+    }
+    fit_gathered(g, q, z)
 }

@@ -1,5 +1,5 @@
 -- The mission's statement 3, for one chart: which alarms stand, said of the readings since the reset.
--- The mission's numbers stand here once more, and nothing of the chart's own definitions: no running sum, no term, no limit.
+-- The mission's numbers stand here once more: no running sum, and none of the terms and limits of the chart's own definitions.
 use mathlib.Core.List.{List, [], _∷_, map}
 use Prim.Native.Nat.{ℕ, _*_, _<_, _≤_}
 use lib.IntN.{ℤ, pos, negℤ, _+ℤ_, _-ℤ_, _*ℤ_}
@@ -22,7 +22,7 @@ pub record RunOver (limit : ℤ) (ts : List ℤ) : Type 0 where
 
 -- ---- the terms of an alarm, from the differences of the readings since the reset, newest first
 
--- the difference before, 0 ahead of the first
+-- the newest difference; 0 where there is none, as ahead of the first
 abbrev pub newest : List ℤ → ℤ
 newest [] = pos 0
 newest (d ∷ ds) = d
@@ -44,7 +44,7 @@ driftTerm s d = pos 1000 *ℤ d -ℤ pos (501 * s)
 abbrev pub stepTerm : ℕ → ℤ → ℤ
 stepTerm s step = pos 10 *ℤ (step *ℤ step) -ℤ pos (37 * (s * s))
 
--- falling is rising with the sign turned
+-- falling is rising for the negative differences
 abbrev pub terms : Alarm → ℕ → List ℤ → List ℤ
 terms rising s ds = map (driftTerm s) ds
 terms falling s ds = map (driftTerm s) (map negℤ ds)
