@@ -26,11 +26,11 @@ youngOf limit m Absent = false
 youngOf limit m (InForce f) = leb (m - f .minute) limit
 
 -- no call, or a first one at most so many minutes old
-abbrev pub agedOf : ℕ → ℕ → Demand → Bool
-agedOf limit m Quiet = true
-agedOf limit m (Since first) = leb (m - first) limit
+abbrev pub recentOf : ℕ → ℕ → Demand → Bool
+recentOf limit m Quiet = true
+recentOf limit m (Since first) = leb (m - first) limit
 
 unfoldable pub usableOf : State → Bool
 usableOf st =
     (silent (zeroAlarms st) && silent (spanAlarms st))
-    && (youngOf 2629440 (st .minute) (st .calibration) && agedOf 263520 (st .minute) (st .demand))
+    && (youngOf 2629440 (st .minute) (st .calibration) && recentOf 263520 (st .minute) (st .demand))

@@ -16,9 +16,9 @@ use Rattle.charts.specs.declared.Chart.{Chart}
 use Rattle.records.specs.Kinds.{Point, atZero, atSpan, reads, resets, deviationOf}
 use Rattle.records.specs.Lists.{since, those}
 use Rattle.records.specs.Record.{Record, differenceOf}
-use Rattle.records.specs.History.{History, lastMinute, settingIn, startedIn, differencesIn, functionIn, firstCall, AlarmStands, minuteOf, Aged, Usable}
+use Rattle.records.specs.History.{History, lastMinute, settingIn, startedIn, differencesIn, functionIn, firstCall, AlarmStands, minuteOf, Recent, Usable}
 use Rattle.records.specs.Agreement.{chartIn, demandOf, Agrees}
-use Rattle.records.specs.Answers.{zeroAlarms, spanAlarms, silent, youngOf, agedOf, usableOf}
+use Rattle.records.specs.Answers.{zeroAlarms, spanAlarms, silent, youngOf, recentOf, usableOf}
 use Rattle.records.specs.declared.state.Calibration.{Calibration}
 use Rattle.records.specs.declared.state.Calibration.the-variants.{Absent, InForce}
 use Rattle.records.specs.declared.state.State.{State}
@@ -66,16 +66,16 @@ young-says limit m (InForce g) = answers-as (answers-le (m - g .minute) limit) (
     same : (f : ℕ) → some (g .minute) ≡ some f → m - f ≤ limit → m - g .minute ≤ limit
     same f e l = let q : g .minute ≡ f = cc in rw q l
 
-aged-says : (limit m : ℕ) (o : Option ℕ) → Answers (agedOf limit m (demandOf o)) (Aged limit m o)
-aged-says limit m none = record { sure = λ x. tt; back = λ x. tt }
-aged-says limit m (some f) = answers-le (m - f) limit
+recent-says : (limit m : ℕ) (o : Option ℕ) → Answers (recentOf limit m (demandOf o)) (Recent limit m o)
+recent-says limit m none = record { sure = λ x. tt; back = λ x. tt }
+recent-says limit m (some f) = answers-le (m - f) limit
 
 -- USABLE, answered from the state, is the history's
 pub usable-says : (h : History) (st : State) → Agrees h st → Answers (usableOf st) (Usable h)
 unfolding usableOf
 usable-says h st A =
     answers-as
-    (answers-and (answers-and (silent-says atZero h st A) (silent-says atSpan h st A)) (answers-and young aged))
+    (answers-and (answers-and (silent-says atZero h st A) (silent-says atSpan h st A)) (answers-and young recent))
     (λ p. record {
       quiet = λ c. elim c [ atZero ↦ p .0 .0 | atSpan ↦ p .0 .1 ];
       from = p .1 .0 .0;
@@ -88,5 +88,5 @@ usable-says h st A =
     young : Answers (youngOf 2629440 (st .minute) (st .calibration)) ((f : ℕ) × (minuteOf (functionIn h) ≡ some f) × (lastMinute h - f ≤ 2629440))
     young = rw (A .minute, A .calibration) (young-says 2629440 (lastMinute h) (functionIn h))
 
-    aged : Answers (agedOf 263520 (st .minute) (st .demand)) (Aged 263520 (lastMinute h) (firstCall h))
-    aged = rw (A .minute, A .demand) (aged-says 263520 (lastMinute h) (firstCall h))
+    recent : Answers (recentOf 263520 (st .minute) (st .demand)) (Recent 263520 (lastMinute h) (firstCall h))
+    recent = rw (A .minute, A .demand) (recent-says 263520 (lastMinute h) (firstCall h))

@@ -105,7 +105,7 @@ weeksOver h = weeksBelow (weekExceeds 5 h) (lastWeek h)
 abbrev pub turns : History → Record → Bool
 turns h r = ltb (lastWeek h) (weekOf (minute r))
 
--- The week before that of r, judged on r, raises a call: over 40 percent, or the sixth of its period over 5 percent.
+-- r is of a later week, and the week of the last record, judged on r, raises a call: over 40 percent, or the sixth of its period over 5 percent.
 unfoldable pub weekCalls : History → Record → Bool
 weekCalls h r = turns h r && (weekExceeds 40 h (lastWeek h) || weekExceeds 5 h (lastWeek h) && eqb (weeksOver h) 5)
 
@@ -131,17 +131,18 @@ abbrev pub minuteOf : Calibration → Option ℕ
 minuteOf Absent = none
 minuteOf (InForce f) = some (f .minute)
 
-abbrev pub Aged : ℕ → ℕ → Option ℕ → Type 0
-Aged limit m none = Unit {0}
-Aged limit m (some from) = m - from ≤ limit
+abbrev pub Recent : ℕ → ℕ → Option ℕ → Type 0
+Recent limit m none = Unit {0}
+Recent limit m (some from) = m - from ≤ limit
 
--- no alarm stands, the last passed calibration is at most 1,826 days old, and the first call since it, if any, at most 183
+-- No alarm; a calibration was passed, at most 2,629,440 minutes before the last record; and if there were calls since then, the first of
+-- them came at most 263,520 minutes before it.
 pub record Usable (h : History) : Type 0 where
   pub quiet : (c : Point) (a : Alarm) → ¬ AlarmStands c a h
   pub from : ℕ
   pub inForce : minuteOf (functionIn h) ≡ some from
   pub young : lastMinute h - from ≤ 2629440
-  pub called : Aged 263520 (lastMinute h) (firstCall h)
+  pub called : Recent 263520 (lastMinute h) (firstCall h)
 
 -- ---- the table's rows, asked of a history
 

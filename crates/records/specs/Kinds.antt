@@ -45,11 +45,11 @@ empties r = eqb (kind r) 5 || (eqb (kind r) 6 || eqb (kind r) 8)
 unfoldable pub calibrates : Record → Bool
 calibrates r = eqb (kind r) 5 && eqb (mark r) 1
 
--- a passed closing of either kind: it starts a period (paper 01: a stretch)
+-- a closing that was passed, calibration or annual: it starts a period (paper 01: a stretch)
 unfoldable pub passes : Record → Bool
 passes r = calibrates r || eqb (kind r) 6 && eqb (mark r) 3
 
--- a failed closing of either kind
+-- a closing that was not
 unfoldable pub fails : Record → Bool
 fails r = (eqb (kind r) 5 || eqb (kind r) 6) && not (passes r)
 
@@ -81,7 +81,8 @@ responseOf s = if eqb (s .response) 0 then 7 else s .response
 unfoldable pub lineOf : Function → Line
 lineOf f = record { slope = f .slope; intercept = f .intercept }
 
--- a value's c with the function in force is below 0 or over its top
+-- A value lies outside the range of the function in force: its c is negative or exceeds the top. Without a function row 19 stops it, so that
+-- the first line is never asked.
 unfoldable pub outsideBy : Calibration → Setting → Record → Bool
 outsideBy Absent s r = false
 outsideBy (InForce f) s r =

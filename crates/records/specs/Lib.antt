@@ -17,5 +17,6 @@ pub mod AgreementLaws
 pub mod Answers
 pub mod AnswersLaws
 pub mod SoundnessLaws
+pub mod LentListLaws
 pub mod Steps
 pub mod StepsLaws

@@ -89,7 +89,7 @@ differenceOf r = field r 8 -ℤ field r 12
 unfoldable pub conditionsAt : Record → ℕ → Conditions
 conditionsAt r at = record { temperature = field r at; pressure = field r (at + 4); water = field r (at + 8); oxygen = field r (at + 12) }
 
--- kind 4: length, coverage, and the pair with its times; its minute is its end
+-- kind 4: length, coverage, and the pair with its times; the record's minute is when the pair ends
 unfoldable pub lengthOf : Record → ℕ
 lengthOf r = natAbs (field r 8)
 
