@@ -6,10 +6,15 @@ pub mod FormLaws
 pub mod BlockRoundTrip
 pub mod Taking
 pub mod Calls
+pub mod FitLaws
 pub mod CallsLaws
 pub mod Statement
 pub mod StatementLaws
+pub mod RunLaws
 pub mod RoundTrip
 pub mod Answered
+pub mod Closings
 pub mod TakingLaws
 pub mod FormingLaws
+pub mod ClosingLaws
+pub mod ClosingAccepted

@@ -1,7 +1,7 @@
 // The report: the six alarms, and whether the analyser may be used (paper 01, 'Usable').
 ghost use mathlib.Core.Path.{_≡_};
 ghost use Prim.Native.Nat.{_-_};
-ghost use Rattle.records.specs.Answers.{agedOf, silent as Answers·silent, usableOf, youngOf};
+ghost use Rattle.records.specs.Answers.{recentOf, silent as Answers·silent, usableOf, youngOf};
 ghost use Rattle.file.specs.Statement.{Statement3, reportOf};
 use crate::Report;
 use charts::Alarms;
@@ -36,8 +36,8 @@ fn young(limit: u32, m: u32, k: Calibration) -> bool
 }
 
 // No call, or a first one at most so many minutes old.
-fn aged(limit: u32, m: u32, d: Demand) -> bool
-    ensures { λ b. ⌜ b ≡ agedOf limit m d ⌝ }
+fn recent(limit: u32, m: u32, d: Demand) -> bool
+    ensures { λ b. ⌜ b ≡ recentOf limit m d ⌝ }
 {
     match d {
         Demand::Quiet => true,
@@ -60,6 +60,6 @@ pub fn report(st: State) -> Report
     Report {
         zero: zero,
         span: span,
-        usable: quiet & (young(2629440, st.minute, k) & aged(263520, st.minute, q)),
+        usable: quiet & (young(2629440, st.minute, k) & recent(263520, st.minute, q)),
     }
 }

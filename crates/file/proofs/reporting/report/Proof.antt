@@ -24,14 +24,14 @@ silent-requires-2 c κs = search needs
 young-requires : tie.Need-young-requires
 young-requires c κs = search needs
 
-aged-requires : tie.Need-aged-requires
-aged-requires c κs = search needs
+recent-requires : tie.Need-recent-requires
+recent-requires c κs = search needs
 
 -- the answer is the definition's
-is : (c : tie.After-aged) →
+is : (c : tie.After-recent) →
     let v = c .before .before .before in
     let a = v .before .before .before .before .before .args in
-    record { zero = v .before .before .alarms .result; span = v .before .alarms2 .result; usable = (v .silent .result && c .before .before .silent2 .result) && (c .before .young .result && c .aged .result) } ≡ reportOf (a .st)
+    record { zero = v .before .before .alarms .result; span = v .before .alarms2 .result; usable = (v .silent .result && c .before .before .silent2 .result) && (c .before .young .result && c .recent .result) } ≡ reportOf (a .st)
 unfolding reportOf usableOf zeroAlarms spanAlarms
 is c =
     let y = c .before in
@@ -39,7 +39,7 @@ is c =
     let s₁ = s₂ .before in
     let a₂ = s₁ .before in
     let a₁ = a₂ .before in
-    rw (c .aged .ensures, y .young .ensures, s₂ .silent2 .ensures, s₁ .silent .ensures, a₂ .alarms2 .ensures, a₁ .alarms .ensures)
+    rw (c .recent .ensures, y .young .ensures, s₂ .silent2 .ensures, s₁ .silent .ensures, a₂ .alarms2 .ensures, a₁ .alarms .ensures)
 
 returns : tie.Need-returns
 returns c =
@@ -55,5 +55,5 @@ report-spec =
     silent-requires
     silent-requires-2
     young-requires
-    aged-requires
+    recent-requires
     returns)
