@@ -20,9 +20,9 @@ use calibration::Tested;
 // ---- what a case is given
 
 // The requirements, Z, the conditions of the first pair and those of all others. An annual test leaves Z aside.
-struct Setup {
-    requirements: Requirements,
-    z: i32,
+pub struct Setup {
+    pub requirements: Requirements,
+    pub z: i32,
     first: Conditions,
     others: Conditions,
 }
@@ -55,7 +55,7 @@ fn moist(water: i32, limit: i32, uncertainty: i32, z: i32) -> Setup {
 }
 
 // Neutral conditions: y' is y.
-fn neutral(limit: i32, uncertainty: i32, z: i32) -> Setup {
+pub fn neutral(limit: i32, uncertainty: i32, z: i32) -> Setup {
     moist(0, limit, uncertainty, z)
 }
 
@@ -86,7 +86,7 @@ fn entry(list: &[i32], i: usize) -> i32 {
 }
 
 // Thirty pairs with the signals and the SRM values of two lists.
-fn pairs_of(s: Setup, xs: &[i32], ys: &[i32]) -> [Pair; 30] {
+pub fn pairs_of(s: Setup, xs: &[i32], ys: &[i32]) -> [Pair; 30] {
     let first = s.first;
     let others = s.others;
     let p = Pair {
@@ -223,7 +223,7 @@ fn show_value(v: ValueOutcome) {
     print::end_line();
 }
 
-fn show_fit(f: Fitted) {
+pub fn show_fit(f: Fitted) {
     let l = f.line;
     print::field(b"refusal", f.refusal as u64);
     show_flag(b"passed", f.passed);
@@ -370,7 +370,7 @@ fn values_outside() {
 // ---- fits
 
 // Table E.2 of the standard, in hundredths: the signals and the SRM values.
-const SIGNALS: [i32; 15] = [
+pub const SIGNALS: [i32; 15] = [
     62600,
     63000,
     63700,
@@ -388,7 +388,7 @@ const SIGNALS: [i32; 15] = [
     63800,
 ];
 
-const VALUES: [i32; 15] = [
+pub const VALUES: [i32; 15] = [
     62510,
     63040,
     63620,

@@ -24,7 +24,7 @@ fn show_sum(name: &[u8], u: Sum) {
     print::number(u.count as u64);
 }
 
-fn show(name: &[u8], s: u16, c: Chart) {
+pub fn show(name: &[u8], s: u16, c: Chart) {
     print::text(name);
     print::field(b"s", s as u64);
     print::signed_field(b"d", print::wide(c.last));

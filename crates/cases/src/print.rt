@@ -35,6 +35,10 @@ pub fn field(name: &[u8], n: u64) {
     number(n);
 }
 
+pub fn count(name: &[u8], n: u32) {
+    field(name, n as u64);
+}
+
 pub fn signed_field(name: &[u8], n: i64) {
     text(b" ");
     text(name);
