@@ -1,5 +1,6 @@
 pub mod Check
 pub mod CheckLaws
+pub mod CheckTables
 pub mod Blocks
 pub mod BlockLaws
 pub mod FormLaws
