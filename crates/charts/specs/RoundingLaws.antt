@@ -1,9 +1,8 @@
--- Laws of `nearOf`. Callers cite these and never its text.
-use mathlib.Core.Path.{_≡_, refl, sym, ap, _∙_, subst}
-use Prim.Native.Nat.{ℕ, zero, suc, _+_, _-_, _*_, _/_, _%_, _^_, _≤_, _<_}
+-- Laws of `nearOf`, and `Divided`, what the code works it out by. Callers cite these and never its text.
+use mathlib.Core.Path.{_≡_, sym, ap, _∙_, subst}
+use Prim.Native.Nat.{ℕ, suc, _+_, _*_, _/_, _%_, _≤_, _<_}
 use native.Mathlib.Omega.{arith}
-use native.Mathlib.Nat.{div-add-mod', mod-lt, lt-of-mul-lt-mul-right, add-mod-right, mod-mod, mod-self, sub-zero, mod-eq-of-lt, eq-zero-or-pos, mul-div-cancel, div-eq-of-lt-le, mul-le-mul-right}
-use mathlib.Core.Logic.{_⊎_, inl, inr, ⊎-elim}
+use native.Mathlib.Nat.{div-le-self, div-add-mod', mod-lt, lt-of-mul-lt-mul-right}
 use lib.IntN.{ℤ, pos, negsuc, negℤ, natAbs, _+ℤ_, _-ℤ_, _*ℤ_}
 use lib.Signed.{shrZ, quotZ, remZ, _≤ℤ_, _<ℤ_, ≤ℤ-refl}
 use Rattle.charts.specs.Rounding.{nearOf}
@@ -24,78 +23,9 @@ floor-is (negsuc a) m h = record {
   high = ud-lt (omega (arith, sum (negsuc (a / m) *ℤ pos m) (pos m), prod (negsuc (a / m)) (pos m), div-add-mod' a m, mod-lt a h));
 }
 
-below : {z : ℤ} {m : ℕ} {p q : ℤ} → IsFloor z m p → IsFloor z m q → up p + dn q < dn p + up q + 1
-below {z} {m} {p} {q} P Q = lt-of-mul-lt-mul-right m (omega (arith, le-ud (P .low), lt-ud (Q .high), prod p (pos m), prod q (pos m), sum (q *ℤ pos m) (pos m)))
-
-pub floor-unique : {z : ℤ} {m : ℕ} {p q : ℤ} → IsFloor z m p → IsFloor z m q → p ≡ q
-floor-unique P Q = ud-eq (omega (arith, below P Q, below Q P))
-
 near-floor : (n : ℤ) (m : ℕ) → 0 < m → IsFloor (pos 2 *ℤ n +ℤ pos m) (2 * m) (nearOf n (pos m))
 unfolding nearOf
 near-floor n m h = floor-is (pos 2 *ℤ n +ℤ pos m) (2 * m) (omega arith)
-
--- ---- as the code has it: no doubling of n, and the floor by a remainder that is brought into range
-pub near-half : (n : ℤ) (m : ℕ) → 0 < m → shrZ (n +ℤ quotZ (pos m) (pos 2)) m ≡ nearOf n (pos m)
-near-half n m h =
-    let k = n +ℤ pos (m / 2) in
-    let q = shrZ k m in
-    let F = floor-is k m h in
-    let f₁ = sum n (pos (m / 2)) in
-    let f₂ = prod q (pos m) in
-    let f₃ = prod q (pos (2 * m)) in
-    let f₄ = sum (q *ℤ pos m) (pos m) in
-    let f₅ = sum (q *ℤ pos (2 * m)) (pos (2 * m)) in
-    let f₆ = prod (pos 2) n in
-    let f₇ = sum (pos 2 *ℤ n) (pos m) in
-    floor-unique (record {
-      low = ud-le (omega (arith, le-ud (F .low)));
-      high = ud-lt (omega (arith, lt-ud (F .high)));
-    })
-    (near-floor n m h)
-
--- suc a + u is v * m, u below m: v - 1 whole m are in a
-up-to : (a m u v : ℕ) → u < m → suc a + u ≡ v * m → a / m + 1 ≡ v
-up-to a m u zero h e = absurd (omega arith)
-up-to a m u (suc v) h e = omega (arith, div-eq-of-lt-le {k = v} m {m = a} (omega arith) (omega arith))
-
--- what takes suc a up to a whole multiple of m
-rest : (a m : ℕ) → 0 < m → suc a + (m - suc a % m) % m ≡ (a / m + 1) * m
-rest a m h = ⊎-elim
-    (λ z. let u : (m - suc a % m) % m ≡ 0 = ap (λ (x : ℕ). (m - x) % m) z ∙ ap (λ (x : ℕ). x % m) (sub-zero m) ∙ mod-self m in go ((m - suc a % m) % m) (suc a / m) (omega arith) (omega (arith, div-add-mod' (suc a) m)))
-    (λ p. let u : (m - suc a % m) % m ≡ m - suc a % m = mod-eq-of-lt (omega (arith, mod-lt (suc a) h)) in go ((m - suc a % m) % m) (suc a / m + 1) (omega (arith, mod-lt (suc a) h)) (omega (arith, mod-lt (suc a) h, div-add-mod' (suc a) m)))
-    (eq-zero-or-pos (suc a % m))
-  where
-    go : (u v : ℕ) → u < m → suc a + u ≡ v * m → suc a + u ≡ (a / m + 1) * m
-    go u v l e = rw (up-to a m u v l e) e
-
-pub floor-code : (k : ℤ) (m : ℕ) → 0 < m → quotZ (k -ℤ remZ (remZ k (pos m) +ℤ pos m) (pos m)) (pos m) ≡ shrZ k m
-floor-code (pos a) m h =
-    let r : (a % m + m) % m ≡ a % m = add-mod-right (a % m) m ∙ mod-mod a m in
-    let e : pos a -ℤ pos ((a % m + m) % m) ≡ pos (a / m * m) = ud-eq (omega (arith, diff (pos a) (pos ((a % m + m) % m)), div-add-mod' a m)) in
-    ap (λ (z : ℤ). quotZ z (pos m)) e ∙ ap pos (mul-div-cancel (a / m) h)
-floor-code (negsuc a) m h =
-    let s = suc a % m in
-    let i : negℤ (pos s) +ℤ pos m ≡ pos (m - s) = ud-eq (omega (arith, sum (negℤ (pos s)) (pos m), up-neg (pos s), dn-neg (pos s), mod-lt (suc a) h)) in
-    let u = (m - s) % m in
-    let e : negsuc a -ℤ pos u ≡ negsuc (a / m * m + (m - 1)) = ud-eq (omega (arith, diff (negsuc a) (pos u), rest a m h)) in
-    ap (λ (z : ℤ). quotZ (negsuc a -ℤ remZ z (pos m)) (pos m)) i ∙ ap (λ (z : ℤ). quotZ z (pos m)) e
-    ∙ ap (λ (n : ℕ). negℤ (pos (n / m))) (whole (a / m) m h) ∙ ap (λ (n : ℕ). negℤ (pos n)) (mul-div-cancel (suc (a / m)) h)
-  where
-    whole : (v m : ℕ) → 0 < m → suc (v * m + (m - 1)) ≡ suc v * m
-    whole v m h = omega arith
-
-pub near-code : (n d : ℤ) → pos 0 <ℤ d → quotZ ((n +ℤ quotZ d (pos 2)) -ℤ remZ (remZ (n +ℤ quotZ d (pos 2)) d +ℤ d) d) d ≡ nearOf n d
-near-code n (pos m) h = floor-code (n +ℤ quotZ (pos m) (pos 2)) m (omega (arith, lt-ud h)) ∙ near-half n m (omega (arith, lt-ud h))
-near-code n (negsuc m) h = absurd (h .lt)
-
-pub abs-half : (d : ℤ) → natAbs (quotZ d (pos 2)) * 2 ≤ natAbs d
-abs-half (pos m) = omega arith
-abs-half (negsuc m) = omega (arith, abs-ud (negℤ (pos (suc m / 2))), up-neg (pos (suc m / 2)), dn-neg (pos (suc m / 2)))
-
-pub abs-rem : (x d : ℤ) → pos 0 <ℤ d → natAbs (remZ x d) < natAbs d
-abs-rem (pos a) (pos m) h = mod-lt a (omega (arith, lt-ud h))
-abs-rem (negsuc a) (pos m) h = omega (arith, mod-lt (suc a) {m = m} (omega (arith, lt-ud h)), abs-ud (negℤ (pos (suc a % m))), up-neg (pos (suc a % m)), dn-neg (pos (suc a % m)))
-abs-rem x (negsuc m) h = absurd (h .lt)
 
 -- ---- what callers use
 
@@ -201,15 +131,142 @@ pub near-nonpos : (n d : ℤ) → pos 0 <ℤ d → n ≤ℤ pos 0 → nearOf n d
 near-nonpos n (negsuc m) h k = absurd (h .lt)
 near-nonpos n (pos m) h k = rw (near-zero m h) at (near-mono (pos m) h k)
 
--- from quotient and remainder: the quotient where the remainder is below half of d, else one more
-pub near-quotient : (n d : ℕ) → 0 < d → n % d < d - n % d → pos (n / d) ≡ nearOf (pos n) (pos d)
-near-quotient n d h k =
-    let p : pos 0 <ℤ pos d = ud-lt (omega arith) in
-    let f₁ = div-add-mod' n d in
-    near-unique p (record { low = ud-le (omega (arith, mod-lt n h)); high = ud-lt (omega (arith, mod-lt n h)) }) (near-is (pos n) (pos d) p)
+-- ---- as the code has it: quotient and rest, and whether the rest is half of d or more
 
-pub near-next : (n d : ℕ) → 0 < d → d - n % d ≤ n % d → pos (n / d + 1) ≡ nearOf (pos n) (pos d)
-near-next n d h k =
-    let p : pos 0 <ℤ pos d = ud-lt (omega arith) in
-    let f₁ = div-add-mod' n d in
-    near-unique p (record { low = ud-le (omega (arith, mod-lt n h)); high = ud-lt (omega (arith, mod-lt n h)) }) (near-is (pos n) (pos d) p)
+-- q is the floor of n / d, and r what is left over
+pub record Divided (n d q r : ℤ) : Type 0 where
+  pub low : pos 0 ≤ℤ r
+  pub high : r <ℤ d
+  pub parts : n ≡ q *ℤ d +ℤ r
+
+module _ (n : ℤ) (m : ℕ) (q r : ℤ) (h : pos 0 <ℤ pos m) (D : Divided n (pos m) q r) where
+  quotient : r <ℤ (pos m -ℤ r) → q ≡ nearOf n (pos m)
+  quotient l =
+      let f₁ = prod q (pos m) in
+      let f₂ = sum (q *ℤ pos m) r in
+      let f₃ = eq-ud (D .parts) in
+      let f₄ = prod (pos 2) (q *ℤ pos m) in
+      let f₅ = sum q (pos 1) in
+      let f₆ = ap (λ (k : ℕ). k * m) f₅ in
+      let f₇ = prod (q +ℤ pos 1) (pos m) in
+      let f₈ = prod (pos 2) ((q +ℤ pos 1) *ℤ pos m) in
+      let f₉ = prod (pos 2) n in
+      let g₁ = sum (pos 2 *ℤ n) (pos m) in
+      let g₂ = diff (pos m) r in
+      near-unique h (record { low = ud-le (omega (arith, le-ud (D .low))); high = ud-lt (omega (arith, lt-ud l)) }) (near-is n (pos m) h)
+
+  next : (pos m -ℤ r) ≤ℤ r → q +ℤ pos 1 ≡ nearOf n (pos m)
+  next l =
+      let p = q +ℤ pos 1 in
+      let f₁ = prod q (pos m) in
+      let f₂ = sum (q *ℤ pos m) r in
+      let f₃ = eq-ud (D .parts) in
+      let f₄ = sum q (pos 1) in
+      let f₅ = ap (λ (k : ℕ). k * m) f₄ in
+      let f₆ = prod p (pos m) in
+      let f₇ = prod (pos 2) (p *ℤ pos m) in
+      let f₈ = sum p (pos 1) in
+      let f₉ = ap (λ (k : ℕ). k * m) f₈ in
+      let g₁ = prod (p +ℤ pos 1) (pos m) in
+      let g₂ = prod (pos 2) ((p +ℤ pos 1) *ℤ pos m) in
+      let g₃ = prod (pos 2) n in
+      let g₄ = sum (pos 2 *ℤ n) (pos m) in
+      let g₅ = diff (pos m) r in
+      near-unique h (record { low = ud-le (omega (arith, le-ud l)); high = ud-lt (omega (arith, lt-ud (D .high))) }) (near-is n (pos m) h)
+
+-- the quotient where the rest is below half of d, else one more
+pub near-quotient : (n d : ℤ) {q r : ℤ} → pos 0 <ℤ d → Divided n d q r → r <ℤ (d -ℤ r) → q ≡ nearOf n d
+near-quotient n (pos m) {q} {r} h D l = quotient n m q r h D l
+near-quotient n (negsuc m) h D l = absurd (h .lt)
+
+pub near-next : (n d : ℤ) {q r : ℤ} → pos 0 <ℤ d → Divided n d q r → (d -ℤ r) ≤ℤ r → q +ℤ pos 1 ≡ nearOf n d
+near-next n (pos m) {q} {r} h D l = next n m q r h D l
+near-next n (negsuc m) h D l = absurd (h .lt)
+
+pub divided-unsigned : (n m : ℕ) → 0 < m → Divided (pos n) (pos m) (pos (n / m)) (pos (n % m))
+divided-unsigned n m h = record {
+  low = ud-le (omega arith);
+  high = ud-lt (omega (arith, mod-lt n h));
+  parts = ud-eq (omega (arith, div-add-mod' n m));
+}
+
+-- ---- the machine's division, which goes toward 0
+
+quot-rem : (n : ℤ) (m : ℕ) → quotZ n (pos m) *ℤ pos m +ℤ remZ n (pos m) ≡ n
+quot-rem (pos a) m = ud-eq (omega (arith, div-add-mod' a m))
+quot-rem (negsuc a) m =
+    let b = suc a / m in
+    let q = negℤ (pos b) in
+    let r = negℤ (pos (suc a % m)) in
+    let f₁ = ap (λ (x : ℕ). x * m) (up-neg (pos b)) in
+    let f₂ = ap (λ (x : ℕ). x * m) (dn-neg (pos b)) in
+    ud-eq (omega (arith, sum (q *ℤ pos m) r, prod q (pos m), up-neg (pos (suc a % m)), dn-neg (pos (suc a % m)), div-add-mod' (suc a) m))
+
+pub abs-quot : (n d : ℤ) → pos 0 <ℤ d → natAbs (quotZ n d) ≤ natAbs n
+abs-quot (pos a) (pos m) h = div-le-self a m
+abs-quot (negsuc a) (pos m) h =
+    omega (arith, div-le-self (suc a) m, abs-ud (negℤ (pos (suc a / m))), up-neg (pos (suc a / m)), dn-neg (pos (suc a / m)))
+abs-quot n (negsuc m) h = absurd (h .lt)
+
+pub abs-rem : (n d : ℤ) → pos 0 <ℤ d → natAbs (remZ n d) < natAbs d
+abs-rem (pos a) (pos m) h = mod-lt a (omega (arith, lt-ud h))
+abs-rem (negsuc a) (pos m) h =
+    omega (arith, mod-lt (suc a) {m = m} (omega (arith, lt-ud h)), abs-ud (negℤ (pos (suc a % m))), up-neg (pos (suc a % m)), dn-neg (pos (suc a % m)))
+abs-rem n (negsuc m) h = absurd (h .lt)
+
+-- ---- the floor without a test: the remainder, raised by d, is above 0 and below 2d, and the quotient is one less for that d
+
+module _ (n : ℤ) (m : ℕ) (h : pos 0 <ℤ pos m) where
+  abbrev raised : ℤ
+  raised = remZ n (pos m) +ℤ pos m
+
+  abbrev size : ℕ
+  size = up raised
+
+  facts : (dn raised ≡ 0) × (size < 2 * m) × (0 < m)
+  facts =
+      let r = remZ n (pos m) in
+      let f₁ = sum r (pos m) in
+      let f₂ = abs-rem n (pos m) h in
+      let f₃ = abs-ud r in
+      let f₄ = one-zero raised in
+      (omega arith, omega (arith, one-zero r), omega arith)
+
+  raised-is : raised ≡ pos size
+  raised-is = ud-eq (omega (arith, facts .0))
+
+  once : size / m ≤ 1
+  once =
+      let l : size / m < 2 = lt-of-mul-lt-mul-right m (omega (arith, facts .1, div-add-mod' size m)) in
+      omega arith
+
+  divided : Divided n (pos m) ((quotZ n (pos m) -ℤ pos 1) +ℤ pos (size / m)) (pos (size % m))
+  divided =
+      let q = quotZ n (pos m) in
+      let r = remZ n (pos m) in
+      let a = q -ℤ pos 1 in
+      let w = a +ℤ pos (size / m) in
+      let f₁ = eq-ud (quot-rem n m) in
+      let f₂ = sum (q *ℤ pos m) r in
+      let f₃ = prod q (pos m) in
+      let f₄ = sum r (pos m) in
+      let f₅ = diff q (pos 1) in
+      let f₆ = ap (λ (k : ℕ). k * m) f₅ in
+      let f₇ = sum a (pos (size / m)) in
+      let f₈ = ap (λ (k : ℕ). k * m) f₇ in
+      let f₉ = prod w (pos m) in
+      let g₁ = sum (w *ℤ pos m) (pos (size % m)) in
+      record {
+        low = ud-le (omega arith);
+        high = ud-lt (omega (arith, mod-lt size (facts .2)));
+        parts = ud-eq (omega (arith, facts .0, div-add-mod' size m));
+      }
+
+pub divided-raised : (n d : ℤ) → pos 0 <ℤ d → Divided n d ((quotZ n d -ℤ pos 1) +ℤ quotZ (remZ n d +ℤ d) d) (remZ (remZ n d +ℤ d) d)
+divided-raised n (pos m) h =
+    subst (λ (z : ℤ). Divided n (pos m) ((quotZ n (pos m) -ℤ pos 1) +ℤ quotZ z (pos m)) (remZ z (pos m))) (sym (raised-is n m h)) (divided n m h)
+divided-raised n (negsuc m) h = absurd (h .lt)
+
+pub abs-raised : (n d : ℤ) → pos 0 <ℤ d → natAbs (quotZ (remZ n d +ℤ d) d) ≤ 1
+abs-raised n (pos m) h = subst (λ (z : ℤ). natAbs (quotZ z (pos m)) ≤ 1) (sym (raised-is n m h)) (once n m h)
+abs-raised n (negsuc m) h = absurd (h .lt)

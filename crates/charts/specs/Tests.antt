@@ -1,6 +1,6 @@
 -- Tests in definitions, and what they answer. A definition tests by a Bool; a statement asks a question; `Answers` joins the two.
 use mathlib.Core.Path.{_≡_, refl, ap}
-use mathlib.Core.Bool.{Bool, true, false, not, _&&_}
+use mathlib.Core.Bool.{Bool, true, false, not, _&&_, false≢true}
 use Prim.Native.Nat.{ℕ, _≤_, _<_}
 use lib.Dec.{T, T-not, not-T, leb, ltb, leb→le, le→leb, ltb→lt, lt→ltb}
 use lib.IntN.{ℤ}
@@ -23,6 +23,11 @@ if-no b x y h = ap (λ (u : Bool). if u then x else y) h
 pub if-all : {A : Type 0} (P : A → Type 0) (b : Bool) (x y : A) → (T b → P x) → (T (not b) → P y) → P (if b then x else y)
 if-all P true x y f g = f tt
 if-all P false x y f g = g tt
+
+-- both tests are true where the two together are
+pub and-both : (a b : Bool) → (a && b) ≡ true → (a ≡ true) × (b ≡ true)
+and-both true b h = (refl, h)
+and-both false b h = absurd (false≢true h)
 
 -- the test b is true exactly if P holds
 pub record Answers (b : Bool) (P : Type 0) : Type 0 where

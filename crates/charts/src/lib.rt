@@ -3,19 +3,41 @@ ghost use Prim.Native.Nat.{_+_, _-_, _*_, _<_, _≤_, _^_};
 ghost use lib.IntN.{pos, natAbs, _+ℤ_, _-ℤ_};
 ghost use lib.Signed.{_<ℤ_};
 ghost use Rattle.charts.specs.Rounding.{nearOf};
+ghost use Rattle.charts.specs.RoundingLaws.{Divided};
 ghost use Rattle.charts.specs.Sums.{added};
 ghost use Rattle.charts.specs.Charts.{adjustmentOf, alarmsOf, appliedOf, blank, resetOf};
 ghost use Rattle.charts.specs.Soundness.{Ranged, Sound, rangedOf, soundOf, withinOf};
 ghost use Rattle.charts.specs.CodeLaws.{apartOf};
 
-// The whole number nearest to n / d, halves going up, for a signed numerator. The remainder is made not negative by adding d.
+// The floor of n / d, and what is left over.
+struct Division {
+    whole: i64,
+    rest: i64,
+}
+
+// The floor and the rest. The machine's remainder has the sign of n; with d added it is above 0 and below 2d for either sign, and the quotient
+// is one less for the d that was added.
+fn divide(n: i64, d: i64) -> Division
+    requires { ⌜ (natAbs n ≤ 2 ^ 62) × (pos 0 <ℤ d) × (natAbs d ≤ 2 ^ 61) ⌝ }
+    ensures { λ p. ⌜ Divided n d (p .whole) (p .rest) ⌝ }
+{
+    let r = n % d + d;
+    Division {
+        whole: n / d - 1 + r / d,
+        rest: r % d,
+    }
+}
+
+// The whole number nearest to n / d, halves going up, for a signed numerator.
 pub fn near(n: i64, d: i64) -> i64
     requires { ⌜ (natAbs n ≤ 2 ^ 62) × (pos 0 <ℤ d) × (natAbs d ≤ 2 ^ 61) ⌝ }
     ensures { λ r. ⌜ r ≡ nearOf n d ⌝ }
 {
-    let k = n + d / 2;
-    let r = (k % d + d) % d;
-    (k - r) / d
+    let p = divide(n, d);
+    if p.rest < d - p.rest {
+        return p.whole;
+    }
+    p.whole + 1
 }
 
 // The same where the numerator is not negative, for every numerator and every divisor above 0.

@@ -1,75 +1,100 @@
--- `charts::near` meets its contract. The steps of the code are written again as `Loc`s, and each need is that of its step.
+-- `charts::near` meets its contract: the floor and the rest by `divide`, and the rest's test.
 use mathlib.Core.Path.{_≡_, _∙_}
-use Prim.Native.Nat.{ℕ, _+_, _≤_, _<_, _^_}
+use Prim.Native.Nat.{_≤_, _^_}
 use native.Mathlib.Omega.{arith}
+use borrow.Author.Needs.{needs}
 use lib.Dec.{lit<}
 use lib.IntN.{ℤ, pos, natAbs, _+ℤ_, _-ℤ_}
-use lib.Signed.{quotZ, remZ, _<ℤ_, ltZ-yes}
+use lib.Signed.{_<ℤ_}
 use mir.Syntax.{w64}
-use mir.Val.{SFits}
-use Rattle.charts.specs.Integers.{abs-sum, abs-diff, abs-sfits}
-use Rattle.charts.specs.SignedLocals.{Loc, arg, lit, add, add-need, sub, sub-need, div-need, quot, rem}
-use Rattle.charts.specs.RoundingLaws.{near-code, abs-half, abs-rem}
+use Rattle.charts.specs.Integers.{abs-ud, one-zero, diff, le-ud, lt-ud, abs-sfits}
+use Rattle.charts.specs.SignedLocals.{Loc, arg, lit, add, add-need, sub, sub-need, lt-true, lt-false}
+use Rattle.charts.specs.Rounding.{nearOf}
+use Rattle.charts.specs.RoundingLaws.{Divided, near-quotient, near-next, near-bound}
 use Rattle.charts.proofs.near.Statement.{statement}
 use Rattle.charts.proofs.near.Tie as tie
 
-two-pos : pos 0 <ℤ pos 2
-two-pos = ltZ-yes tt
-
-abbrev Two : Loc w64
-Two = lit 2 (lit< tt)
+abbrev One : Loc w64
+One = lit 1 (lit< tt)
 
 module _ (c : tie.Start) where
-  d-pos : pos 0 <ℤ c .args .d
-  d-pos = c .pre .1
-
   abbrev N : Loc w64
   N = arg (c .args .n) (c .fits .n)
 
   abbrev D : Loc w64
   D = arg (c .args .d) (c .fits .d)
 
-  abbrev Half : Loc w64
-  Half = quot D Two two-pos
+-- ---- after the division
 
-  k-small : natAbs (N .num +ℤ Half .num) ≤ 2 ^ 62 + 2 ^ 60
-  k-small = omega (arith, abs-sum (N .num) (Half .num), abs-half (D .num))
+module _ (c : tie.After-divide) where
+  abbrev n : ℤ
+  n = c .before .args .n
 
-  abbrev K : Loc w64
-  K = add N Half (abs-sfits (omega (arith, k-small)))
+  abbrev d : ℤ
+  d = c .before .args .d
 
-  r-small : natAbs (remZ (K .num) (D .num)) < 2 ^ 61
-  r-small = omega (arith, abs-rem (K .num) (D .num) d-pos)
+  abbrev whole : ℤ
+  whole = c .divide .result .whole
 
-  abbrev R₁ : Loc w64
-  R₁ = add (rem K D d-pos) D (abs-sfits (omega (arith, abs-sum (remZ (K .num) (D .num)) (D .num), r-small)))
+  abbrev rest : ℤ
+  rest = c .divide .result .rest
 
-  abbrev S : Loc w64
-  S = sub K (rem R₁ D d-pos) (abs-sfits (omega (arith, abs-diff (K .num) (remZ (R₁ .num) (D .num)), k-small, abs-rem (R₁ .num) (D .num) d-pos)))
+  d-pos : pos 0 <ℤ d
+  d-pos = c .before .pre .1
 
-div-k : tie.Need-div-k
-div-k c = div-need (D c) Two two-pos
+  parts : Divided n d whole rest
+  parts = rw (N (c .before) .reads, D (c .before) .reads) at (c .divide .ensures)
 
-add-k : tie.Need-add-k
-add-k c = add-need (N c) (Half c) (K c .fit)
+  abbrev W : Loc w64
+  W = arg whole (search needs)
 
-rem-r : tie.Need-rem-r
-rem-r c = div-need (K c) (D c) (d-pos c)
+  abbrev R : Loc w64
+  R = arg rest (search needs)
 
-add-r : tie.Need-add-r
-add-r c = add-need (rem (K c) (D c) (d-pos c)) (D c) (R₁ c .fit)
+  other-small : natAbs (d -ℤ rest) ≤ 2 ^ 61
+  other-small =
+      omega (arith, abs-ud (d -ℤ rest), one-zero (d -ℤ rest), diff d rest, le-ud (parts .low), lt-ud (parts .high), abs-ud d, c .before .pre .2)
 
-rem-r-2 : tie.Need-rem-r-2
-rem-r-2 c = div-need (R₁ c) (D c) (d-pos c)
+  -- what the rest is tested against
+  abbrev O : Loc w64
+  O = sub (D (c .before)) R (abs-sfits (omega (arith, other-small)))
 
-sub-result : tie.Need-sub-result
-sub-result c = sub-need (K c) (rem (R₁ c) (D c) (d-pos c)) (S c .fit)
+  near-small : natAbs (nearOf n d) ≤ 2 ^ 62
+  near-small = near-bound n d (2 ^ 62) d-pos (omega (arith, c .before .pre .0, lt-ud d-pos, abs-ud d))
 
-div-result : tie.Need-div-result
-div-result c = div-need (S c) (D c) (d-pos c)
+-- ---- at the test
+
+abbrev after : tie.After-struct-told2 → tie.After-divide
+after c = c .before .before .before .before
+
+-- past the test
+up : (c : tie.Else1) → let p = after (c .before) in whole p +ℤ pos 1 ≡ nearOf (n p) (d p)
+up c = let p = after (c .before) in near-next (n p) (d p) (d-pos p) (parts p) (lt-false (R p) (O p) (c .if1 .left))
+
+abbrev Next : tie.Else1 → Loc w64
+Next c = let p = after (c .before) in add (W p) One (abs-sfits (rw (up c) (omega (arith, near-small p))))
+
+-- ---- the needs
+
+divide-requires : tie.Need-divide-requires
+divide-requires c κs = rw (N c .reads, D c .reads) (c .pre)
+
+sub-if1 : tie.Need-sub-if1
+sub-if1 c = let p = c .before .before in sub-need (D (p .before)) (R p) (O p .fit)
 
 returns : tie.Need-returns
-returns c = quot (S c) (D c) (d-pos c) .reads ∙ near-code (N c .num) (D c .num) (d-pos c)
+returns c =
+    let t = c .before in
+    let p = after (t .before) in
+    W p .reads ∙ near-quotient (n p) (d p) (d-pos p) (parts p) (lt-true (R p) (O p) (t .if1 .taken))
+
+add-result : tie.Need-add-result
+add-result c =
+    let e = c .before .before in
+    add-need (W (after (e .before))) One (Next e .fit)
+
+returns-2 : tie.Need-returns-2
+returns-2 c = let e = c .before .before in Next e .reads ∙ up e
 
 pub near-spec : {M : Type 1} → statement M
-near-spec = tie.close (tie.spec div-k add-k rem-r add-r rem-r-2 sub-result div-result returns)
+near-spec = tie.close (tie.spec divide-requires sub-if1 returns add-result returns-2)
