@@ -10,6 +10,7 @@ pub mod History
 pub mod State
 pub mod StateParts
 pub mod Soundness
+pub mod InPlace
 pub mod ListLaws
 pub mod WeekLaws
 pub mod Agreement

@@ -10,6 +10,7 @@ ghost use Rattle.records.specs.Kinds.{exceeds as Kinds·exceeds, outside
 ghost use Rattle.records.specs.Soundness.{CalibrationSound, SettingSound, Sound};
 ghost use Rattle.records.specs.Table.{readingRefusal, refusalIn};
 ghost use Rattle.records.specs.State.{appliedTo, factsOf, initialOf, judges as State·judges, noPair, raisedOf};
+ghost use Rattle.records.specs.InPlace.{InWeek, inWeekOf};
 ghost use Rattle.records.specs.StateParts.{emptied as StateParts·emptied, judgedOf, withAnnual, withCalibration, withFailure, withFunction, withPair, withPeriod, withReading, withReset, withTally};
 use crate::bytes;
 use crate::fields;
@@ -334,4 +335,52 @@ pub fn apply(st: State, r: &[u8]) -> State
         0 => s,
         9..=255 => s,
     }
+}
+
+// ---- values and readings, which are most records, in the week of the record before: the state is changed in place
+
+// Whether a record is of the kind given and of no later week than the last one.
+pub fn in_week(kind: u8, st: State, r: &[u8]) -> bool
+    requires { ⌜ length (now r) ≡ 40 ⌝ }
+    ensures { λ b. ⌜ b ≡ inWeekOf kind st (now (r .entry)) ⌝ }
+{
+    let m = bytes::read32(r, 4);
+    (r[0] == kind) & (m / 10080 <= st.minute / 10080)
+}
+
+// A value: the minute and the tally change.
+pub fn value(mut st: State, r: &[u8]) -> State
+    requires { ⌜ InWeek 7 st (now r) ⌝ }
+    ensures { λ s. ⌜ s ≡ appliedTo st (now (r .entry)) ⌝ }
+{
+    let k = st.calibration;
+    let q = st.setting;
+    st.begun = true;
+    st.minute = bytes::read32(r, 4);
+    st.total = st.total + 1;
+    if outside(k, q, r) {
+        st.outside = st.outside + 1;
+        return st;
+    }
+    st
+}
+
+// A reading: the minute and the chart of its mark change.
+pub fn reading(mut st: State, r: &[u8]) -> State
+    requires { ⌜ InWeek 2 st (now r) ⌝ }
+    ensures { λ s. ⌜ s ≡ appliedTo st (now (r .entry)) ⌝ }
+{
+    let d = fields::difference_of(r);
+    st.begun = true;
+    st.minute = bytes::read32(r, 4);
+    if r[1] == 0 {
+        let c = st.zero;
+        let after = c.apply(st.setting.zero, d);
+        st.zero = after;
+        return st;
+    }
+    let c = st.span;
+    let after = c.apply(st.setting.span, d);
+    st.span = after;
+    st
 }

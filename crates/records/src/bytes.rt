@@ -46,12 +46,11 @@ pub fn all_zero(bytes: &[u8], from: usize, to: usize) -> bool
     requires { ⌜ (from ≤ to) × (to ≤ length (now bytes)) ⌝ }
     ensures { λ r. ⌜ r ≡ allZero (part from to (now (bytes .entry))) ⌝ }
 {
+    let mut any: u8 = 0;
     for i in from..to {
-        if bytes[i] != 0 {
-            return false;
-        }
+        any = any | bytes[i];
     }
-    true
+    any == 0
 }
 
 // A number is written into two bytes.
