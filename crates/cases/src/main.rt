@@ -2,7 +2,7 @@
 // Its numbers were not taken from a run: they were worked out from the formulas of paper 01, by a few lines of Python over whole
 // numbers and fractions (near(x) as floor(x + 1/2); a sum and its count as (sum, count + 1) where the sum is above 0, else (0, 0)).
 // The cases of records are the lines of the file `stdin`, a script. What they must give was worked out by a second reader of that script in
-// Python, which goes by the paper's sections on records, weeks and calls and by its table of refusals, and knows nothing of this code.
+// Python, which goes by the papers on records, weeks, calls and refusals, and knows nothing of this code.
 mod calibration_cases;
 mod charts_cases;
 mod lent_cases;

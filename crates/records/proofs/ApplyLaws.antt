@@ -7,9 +7,9 @@ use native.Mathlib.Omega.{arith}
 use lib.Dec.{eqb}
 use Rattle.charts.specs.Tests.{if_then_else_, if-all}
 use Rattle.records.specs.Record.{Record, kind, mark, minute, settingOf, waitingOf}
-use Rattle.records.specs.Kinds.{reads, resets, sets, pairs, empties, calibrates, passes, fails, values, outsideBy}
+use Rattle.records.specs.Kinds.{reads, resets, sets, pairs, empties, calibrates, passes, fails, counts, outsideBy}
 use Rattle.records.specs.State.{chartAfter, turnsFrom, judges, raisedOf, appliedTo}
-use Rattle.records.specs.StateParts.{withSetting, withZero, withSpan, withReading, withReset, withPair, emptied, withFailure, withDemand, withFunction, withCalibration, withPeriod, withAnnual, withTally, judgedOf}
+use Rattle.records.specs.StateParts.{withSetting, withZero, withSpan, withReading, withReset, withPair, emptied, withFailure, withDemand, withFunction, withCalibration, withPeriod, withAnnual, withTally, withValue, judgedOf}
 use Rattle.records.specs.declared.state.Demand.{Demand}
 use Rattle.records.specs.declared.state.Demand.the-variants.{Quiet, Since}
 use Rattle.records.specs.declared.state.State.{State}
@@ -49,23 +49,23 @@ module _ (st : State) (r : Record) where
   judged-outside = if-all (λ (n : ℕ). n ≤ st .outside) (turnsFrom (st .minute) (minute r)) _ _ (λ t. omega arith) (λ t. omega arith)
 
   pub applied-setting : kind r ≡ 1 → withSetting judged (settingOf r) ≡ appliedTo st r
-  unfolding judgedOf appliedTo chartAfter sets reads resets pairs empties calibrates passes fails values withSetting
+  unfolding judgedOf appliedTo chartAfter sets reads resets pairs empties calibrates passes fails counts withSetting
   applied-setting k = rw k
 
   pub applied-reading : kind r ≡ 2 → mark r ≤ 1 → withReading judged r ≡ appliedTo st r
-  unfolding judgedOf appliedTo chartAfter sets reads resets pairs empties calibrates passes fails values withReading withZero withSpan
+  unfolding judgedOf appliedTo chartAfter sets reads resets pairs empties calibrates passes fails counts withReading withZero withSpan
   applied-reading k h = ⊎-elim (λ (e : mark r ≡ 0). rw (k, e)) (λ (e : mark r ≡ 1). rw (k, e)) (two-marks h)
 
   pub applied-reset : kind r ≡ 3 → mark r ≤ 1 → withReset judged r ≡ appliedTo st r
-  unfolding judgedOf appliedTo chartAfter sets reads resets pairs empties calibrates passes fails values withReset withZero withSpan
+  unfolding judgedOf appliedTo chartAfter sets reads resets pairs empties calibrates passes fails counts withReset withZero withSpan
   applied-reset k h = ⊎-elim (λ (e : mark r ≡ 0). rw (k, e)) (λ (e : mark r ≡ 1). rw (k, e)) (two-marks h)
 
   pub applied-pair : kind r ≡ 4 → withPair judged (waitingOf r) ≡ appliedTo st r
-  unfolding judgedOf appliedTo chartAfter sets reads resets pairs empties calibrates passes fails values withPair
+  unfolding judgedOf appliedTo chartAfter sets reads resets pairs empties calibrates passes fails counts withPair
   applied-pair k = rw k
 
   pub applied-calibration : kind r ≡ 5 → withCalibration judged r ≡ appliedTo st r
-  unfolding judgedOf appliedTo chartAfter sets reads resets pairs empties calibrates passes fails values withCalibration withFunction withFailure withDemand emptied
+  unfolding judgedOf appliedTo chartAfter sets reads resets pairs empties calibrates passes fails counts withCalibration withFunction withFailure withDemand emptied
   applied-calibration k = by-mark (eqb (mark r) 1) refl
     where
       by-mark : (b : Bool) → eqb (mark r) 1 ≡ b → withCalibration judged r ≡ appliedTo st r
@@ -73,18 +73,21 @@ module _ (st : State) (r : Record) where
       by-mark false e = rw (k, e, raised-again (turnsFrom (st .minute) (minute r) && judges st) (st .demand) (minute r))
 
   pub applied-annual : kind r ≡ 6 → withAnnual judged r ≡ appliedTo st r
-  unfolding judgedOf appliedTo chartAfter sets reads resets pairs empties calibrates passes fails values withAnnual withPeriod withFailure withDemand emptied
+  unfolding judgedOf appliedTo chartAfter sets reads resets pairs empties calibrates passes fails counts withAnnual withPeriod withFailure withDemand emptied
   applied-annual k = by-mark (eqb (mark r) 3) refl
     where
       by-mark : (b : Bool) → eqb (mark r) 3 ≡ b → withAnnual judged r ≡ appliedTo st r
       by-mark true e = rw (k, e)
       by-mark false e = rw (k, e, raised-again (turnsFrom (st .minute) (minute r) && judges st) (st .demand) (minute r))
 
-  pub applied-value : kind r ≡ 7
-      → withTally judged (judged .total + 1) (if outsideBy (st .calibration) (st .setting) r then judged .outside + 1 else judged .outside) ≡ appliedTo st r
-  unfolding judgedOf appliedTo chartAfter sets reads resets pairs empties calibrates passes fails values withTally
-  applied-value k = rw k
+  pub applied-value : kind r ≡ 7 → withValue judged (mark r) (outsideBy (st .calibration) (st .setting) r) ≡ appliedTo st r
+  unfolding judgedOf appliedTo chartAfter sets reads resets pairs empties calibrates passes fails counts withValue withTally
+  applied-value k = by-mark (eqb (mark r) 0) refl
+    where
+      by-mark : (b : Bool) → eqb (mark r) 0 ≡ b → withValue judged (mark r) (outsideBy (st .calibration) (st .setting) r) ≡ appliedTo st r
+      by-mark true e = rw (k, e)
+      by-mark false e = rw (k, e)
 
   pub applied-drop : kind r ≡ 8 → emptied judged ≡ appliedTo st r
-  unfolding judgedOf appliedTo chartAfter sets reads resets pairs empties calibrates passes fails values emptied
+  unfolding judgedOf appliedTo chartAfter sets reads resets pairs empties calibrates passes fails counts emptied
   applied-drop k = rw k

@@ -4,12 +4,12 @@ use mathlib.Core.Bool.{Bool, true, false}
 use Prim.Native.Nat.{ℕ, _+_}
 use lib.Dec.{eqb, leb}
 use lib.ListN.{length}
-use borrow.Author.Tests.{eqb-true, leb-true, le-ltb}
+use borrow.Author.Tests.{ne-eqb, eqb-true, leb-true, le-ltb}
 use Rattle.charts.specs.Tests.{if_then_else_, and-both}
 use Rattle.charts.specs.Charts.{appliedOf}
 use Rattle.charts.specs.declared.Chart.{Chart}
 use Rattle.records.specs.Record.{Record, kind, mark, minute, differenceOf}
-use Rattle.records.specs.Kinds.{reads, resets, sets, pairs, empties, calibrates, passes, fails, values, weekOf, outsideBy}
+use Rattle.records.specs.Kinds.{reads, resets, sets, pairs, empties, calibrates, passes, fails, counts, weekOf, outsideBy}
 use Rattle.records.specs.Table.{refusalIn}
 use Rattle.records.specs.State.{factsOf, chartAfter, turnsFrom, appliedTo}
 use Rattle.records.specs.Soundness.{Sound}
@@ -52,17 +52,22 @@ module _ (st : State) (r : Record) (w : turnsFrom (st .minute) (minute r) ≡ fa
     demand = st .demand;
   }
 
-  pub value-changes : kind r ≡ 7 → (o : Bool) → outsideBy (st .calibration) (st .setting) r ≡ o
+  pub value-changes : kind r ≡ 7 → mark r ≡ 0 → (o : Bool) → outsideBy (st .calibration) (st .setting) r ≡ o
       → changed (st .zero) (st .span) (st .total + 1) (if o then st .outside + 1 else st .outside) ≡ appliedTo st r
-  unfolding appliedTo chartAfter sets reads resets pairs empties calibrates passes fails values
-  value-changes k o q = rw (e, k, w, q)
+  unfolding appliedTo chartAfter sets reads resets pairs empties calibrates passes fails counts
+  value-changes k h o q = rw (e, k, w, h, q)
+
+  -- a value that doesn't count
+  pub minute-changes : kind r ≡ 7 → (mark r ≡ 0 → ⊥) → changed (st .zero) (st .span) (st .total) (st .outside) ≡ appliedTo st r
+  unfolding appliedTo chartAfter sets reads resets pairs empties calibrates passes fails counts
+  minute-changes k h = rw (e, k, w, ne-eqb (mark r) 0 h)
 
   pub zero-changes : kind r ≡ 2 → mark r ≡ 0 → (c : Chart) → c ≡ appliedOf (st .zero) (st .setting .zero) (differenceOf r)
       → changed c (st .span) (st .total) (st .outside) ≡ appliedTo st r
-  unfolding appliedTo chartAfter sets reads resets pairs empties calibrates passes fails values
+  unfolding appliedTo chartAfter sets reads resets pairs empties calibrates passes fails counts
   zero-changes k h c q = rw (e, k, w, h, q)
 
   pub span-changes : kind r ≡ 2 → mark r ≡ 1 → (c : Chart) → c ≡ appliedOf (st .span) (st .setting .span) (differenceOf r)
       → changed (st .zero) c (st .total) (st .outside) ≡ appliedTo st r
-  unfolding appliedTo chartAfter sets reads resets pairs empties calibrates passes fails values
+  unfolding appliedTo chartAfter sets reads resets pairs empties calibrates passes fails counts
   span-changes k h c q = rw (e, k, w, h, q)

@@ -17,7 +17,7 @@ use Rattle.charts.specs.ChartLaws.{afterReadings, Charted, charted}
 use Rattle.charts.specs.declared.Chart.{Chart}
 use Rattle.records.specs.Lists.{since, those, any, those-since}
 use Rattle.records.specs.Record.{Record, kind, mark, minute, settingOf, differenceOf, waitingOf, functionOf, formedOf, rangedOf}
-use Rattle.records.specs.Kinds.{Point, noSetting, atZero, atSpan, number, reads, resets, sets, pairs, empties, calibrates, passes, fails, values, deviationOf, weekOf, outsideBy, exceeds}
+use Rattle.records.specs.Kinds.{Point, noSetting, atZero, atSpan, number, reads, resets, sets, pairs, empties, calibrates, passes, fails, deviationOf, weekOf, outsideBy, exceeds}
 use Rattle.records.specs.Table.{Facts, misplaced, untimely, kindRefusal, readingRefusal, chartRefusal, pairRefusal, refusalIn}
 use Rattle.records.specs.History.{History, begunIn, lastMinute, settingIn, startedIn, differencesIn, pendingIn, functionIn, lastWeek, totalIn, outsideIn, weekExceeds, weeksOver, turns, weekCalls, callsIn, oldest, firstCall, factsIn, refusalOf}
 use Rattle.records.specs.State.{noPair, noPairs, initialOf, factsOf, chartAfter, turnsFrom, judges, raisedOf, appliedTo}

@@ -1,4 +1,5 @@
--- What the accepted records say, and nothing else: paper 01, 'Charts', 'Calibration', 'Weeks and calls (6.4.4)' and 'Usable', and the mission's statement 3.
+-- What the accepted records say, and nothing else: paper 01, 'Charts', 'Calibration', 'Weeks and calls (6.4.4)' and 'Usable', paper 02, C-11, and the
+-- mission's statement 3.
 -- A history is the list of accepted records, newest first, so that "since the last" is plain recursion.
 use mathlib.Core.Path.{_≡_}
 use mathlib.Core.Bool.{Bool, true, false, not, _&&_, _||_}
@@ -12,7 +13,7 @@ use Rattle.charts.specs.Tests.{if_then_else_}
 use Rattle.charts.specs.Runs.{Alarm, Stands}
 use Rattle.records.specs.Lists.{since, those, any}
 use Rattle.records.specs.Record.{Record, minute, settingOf, differenceOf, waitingOf, functionOf}
-use Rattle.records.specs.Kinds.{Point, noSetting, atZero, atSpan, reads, resets, sets, pairs, empties, calibrates, passes, fails, values, deviationOf, weekOf, outsideBy, exceeds}
+use Rattle.records.specs.Kinds.{Point, noSetting, atZero, atSpan, reads, resets, sets, pairs, empties, calibrates, passes, fails, counts, deviationOf, weekOf, outsideBy, exceeds}
 use Rattle.records.specs.Table.{Facts, refusalIn}
 use Rattle.records.specs.declared.state.Setting.{Setting}
 use Rattle.records.specs.declared.state.Waiting.{Waiting}
@@ -69,11 +70,11 @@ abbrev pub tally : (History → Record → Bool) → History → ℕ
 tally p [] = 0
 tally p (r ∷ h) = if passes r then 0 else if p h r then suc (tally p h) else tally p h
 
--- a value of week w
+-- a value that counts, of week w
 abbrev pub valueOfWeek : ℕ → History → Record → Bool
-valueOfWeek w h r = values r && eqb (weekOf (minute r)) w
+valueOfWeek w h r = counts r && eqb (weekOf (minute r)) w
 
--- a value of week w that was outside when it was applied
+-- such a value that was outside when it was applied
 abbrev pub outsideOfWeek : ℕ → History → Record → Bool
 outsideOfWeek w h r = valueOfWeek w h r && outsideBy (functionIn h) (settingIn h) r
 
@@ -83,7 +84,8 @@ totalIn w h = tally (valueOfWeek w) h
 unfoldable pub outsideIn : ℕ → History → ℕ
 outsideIn w h = tally (outsideOfWeek w) h
 
--- week w of the period is over so many percent
+-- Week w of the period is over so many percent. Paper 02, C-11, has a week not judged where none of its values counts: its total is 0, and
+-- so is the number outside, so that no percentage is exceeded.
 abbrev pub weekExceeds : ℕ → History → ℕ → Bool
 weekExceeds percent h w = exceeds percent (outsideIn w h) (totalIn w h)
 

@@ -1,4 +1,4 @@
--- Paper 01, 'Records', 'Weeks and calls (6.4.4)': which records do what, and when a value is outside.
+-- Paper 01, 'Records', 'Weeks and calls (6.4.4)', and paper 02, C-11: which records do what, and when a value is outside.
 use mathlib.Core.Bool.{Bool, true, false, not, _&&_, _||_}
 use Prim.Native.Nat.{ℕ, _*_, _/_}
 use lib.Dec.{eqb, ltb}
@@ -53,8 +53,9 @@ passes r = calibrates r || eqb (kind r) 6 && eqb (mark r) 3
 unfoldable pub fails : Record → Bool
 fails r = (eqb (kind r) 5 || eqb (kind r) 6) && not (passes r)
 
-unfoldable pub values : Record → Bool
-values r = eqb (kind r) 7
+-- a value that counts in its week: its mark is 0, while 1 tells of a start-up and the like (paper 02, C-11)
+unfoldable pub counts : Record → Bool
+counts r = eqb (kind r) 7 && eqb (mark r) 0
 
 -- ---- times and figures
 

@@ -1,4 +1,4 @@
--- Paper 01, 'Records': a record is forty bytes. What stands where, which bytes have to be zero, and which ranges the fields have.
+-- Paper 01, 'Records', and paper 02, C-11: a record is forty bytes. What stands where, which bytes have to be zero, and which ranges the fields have.
 use mathlib.Core.Bool.{Bool, true, false, not, _&&_, _||_}
 use mathlib.Core.List.{List, [], _∷_}
 use Prim.Native.Nat.{ℕ, _+_, _-_, _*_}
@@ -45,10 +45,10 @@ longField r at = signed64 (le32 r at + 4294967296 * le32 r (at + 4))
 
 -- ---- which marks, and where the fields end
 
--- the largest mark of a kind
+-- the largest mark of a kind; for a value it comes from paper 02, C-11
 unfoldable pub markLimit : ℕ → ℕ
 markLimit k =
-    if eqb k 2 || (eqb k 3 || eqb k 5) then 1
+    if eqb k 2 || (eqb k 3 || (eqb k 5 || eqb k 7)) then 1
     else if eqb k 6 then 3
     else 0
 

@@ -21,7 +21,7 @@ use Rattle.calibration.specs.declared.Pair.{Pair}
 use Rattle.calibration.specs.declared.Requirements.{Requirements}
 use Rattle.records.specs.Record.{Record, kind, mark, minute, settingRanged, settingOf, differenceOf, waitingOf, functionOf, zOf}
 use Rattle.records.specs.RecordLaws.{WaitingFields, setting-fields, setting-ranged, reading-fields, reading-ranged, waiting-fields, waiting-ranged, z-field, z-ranged}
-use Rattle.records.specs.Kinds.{Point, atZero, atSpan, deviationOf, reads, resets, sets, pairs, empties, calibrates, passes, values, exceeds, outsideBy, lineOf}
+use Rattle.records.specs.Kinds.{Point, atZero, atSpan, deviationOf, reads, resets, sets, pairs, empties, calibrates, passes, counts, exceeds, outsideBy, lineOf}
 use Rattle.records.specs.Table.{misplaced, pairOfWaiting, refusalIn}
 use Rattle.records.specs.TableLaws.{Accepted, accepted, reading-passed, zero-open, span-open, pair-passed, pair-passes, calibration-passed, calibration-passes, stored-line}
 use Rattle.records.specs.State.{noPairs, initialOf, factsOf, chartAfter, turnsFrom, appliedTo}
@@ -196,7 +196,7 @@ applied-sound m st r h S e =
       pending = pending-after st r A h (S .pending);
       pairs = kept-sound (empties r) (pairs r) (st .pending) (st .pairs) (waitingOf r) (S .pairs) (waiting-after st r A);
       calibration = calibration-after m st r S A;
-      total = counted (passes r) turn (values r) (st .total) m (S .total);
-      outside = counted (passes r) turn (values r && outsideBy (st .calibration) (st .setting) r) (st .outside) m (S .outside);
+      total = counted (passes r) turn (counts r) (st .total) m (S .total);
+      outside = counted (passes r) turn (counts r && outsideBy (st .calibration) (st .setting) r) (st .outside) m (S .outside);
       over = counted (passes r) false (turn && exceeds 5 (st .outside) (st .total)) (st .over) m (S .over);
     }

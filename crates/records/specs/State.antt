@@ -9,7 +9,7 @@ use Rattle.charts.specs.Tests.{if_then_else_}
 use Rattle.charts.specs.Charts.{blank, resetOf, appliedOf}
 use Rattle.charts.specs.declared.Chart.{Chart}
 use Rattle.records.specs.Record.{Record, minute, settingOf, differenceOf, waitingOf, functionOf}
-use Rattle.records.specs.Kinds.{Point, noSetting, atZero, atSpan, reads, resets, sets, pairs, empties, calibrates, passes, fails, values, deviationOf, weekOf, outsideBy, exceeds}
+use Rattle.records.specs.Kinds.{Point, noSetting, atZero, atSpan, reads, resets, sets, pairs, empties, calibrates, passes, fails, counts, deviationOf, weekOf, outsideBy, exceeds}
 use Rattle.records.specs.Table.{Facts, refusalIn}
 use Rattle.records.specs.declared.state.Setting.{Setting}
 use Rattle.records.specs.declared.state.Waiting.{Waiting}
@@ -104,8 +104,8 @@ appliedTo st r =
       pending = if empties r then 0 else if pairs r then st .pending + 1 else st .pending;
       pairs = if empties r then noPairs else if pairs r then set (st .pairs) (st .pending) (waitingOf r) else st .pairs;
       calibration = if calibrates r then InForce (functionOf r) else st .calibration;
-      total = if passes r then 0 else if values r then total + 1 else total;
-      outside = if passes r then 0 else if values r && outsideBy (st .calibration) (st .setting) r then outside + 1 else outside;
+      total = if passes r then 0 else if counts r then total + 1 else total;
+      outside = if passes r then 0 else if counts r && outsideBy (st .calibration) (st .setting) r then outside + 1 else outside;
       over = if passes r then 0 else if turn && exceeds 5 (st .outside) (st .total) then st .over + 1 else st .over;
       demand = if calibrates r then Quiet else if fails r || turn && judges st then raisedOf (st .demand) (minute r) else st .demand;
     }

@@ -77,6 +77,12 @@ judgedOf st m =
 
 -- ---- the kinds that go by their mark
 
+-- a value, outside or not, by its mark: with 0 it is one more of its week, any other leaves the state as it is
+unfoldable pub withValue : State → ℕ → Bool → State
+withValue st m outside =
+    if eqb m 0 then withTally st (st .total + 1) (if outside then st .outside + 1 else st .outside)
+    else st
+
 -- a reading, and a reset, of the chart of its mark
 unfoldable pub withReading : State → Record → State
 withReading st r =

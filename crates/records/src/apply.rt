@@ -11,7 +11,7 @@ ghost use Rattle.records.specs.Soundness.{CalibrationSound, SettingSound
 ghost use Rattle.records.specs.Table.{readingRefusal, refusalIn};
 ghost use Rattle.records.specs.State.{appliedTo, factsOf, initialOf, judges as State·judges, noPair, raisedOf};
 ghost use Rattle.records.specs.InPlace.{InWeek, inWeekOf};
-ghost use Rattle.records.specs.StateParts.{emptied as StateParts·emptied, judgedOf, withAnnual, withCalibration, withFailure, withFunction, withPair, withPeriod, withReading, withReset, withTally};
+ghost use Rattle.records.specs.StateParts.{emptied as StateParts·emptied, judgedOf, withAnnual, withCalibration, withFailure, withFunction, withPair, withPeriod, withReading, withReset, withValue};
 use crate::bytes;
 use crate::fields;
 use crate::state::Calibration;
@@ -231,10 +231,14 @@ fn outside(k: Calibration, s: Setting, r: &[u8]) -> bool
     }
 }
 
-fn with_value(st: State, outside: bool) -> State
+// A value: with another mark than 0 it doesn't count in its week.
+fn with_value(st: State, mark: u8, outside: bool) -> State
     requires { ⌜ (st .total < 4294967295) × (st .outside < 4294967295) ⌝ }
-    ensures { λ r. ⌜ r ≡ withTally st (st .total + 1) (if outside then st .outside + 1 else st .outside) ⌝ }
+    ensures { λ r. ⌜ r ≡ withValue st mark outside ⌝ }
 {
+    if mark != 0 {
+        return st;
+    }
     if outside {
         return State {
             total: st.total + 1,
@@ -329,7 +333,7 @@ pub fn apply(st: State, r: &[u8]) -> State
         7 => {
             let k = s.calibration;
             let q = s.setting;
-            with_value(s, outside(k, q, r))
+            with_value(s, r[1], outside(k, q, r))
         }
         8 => emptied(s),
         0 => s,
@@ -348,7 +352,7 @@ pub fn in_week(kind: u8, st: State, r: &[u8]) -> bool
     (r[0] == kind) & (m / 10080 <= st.minute / 10080)
 }
 
-// A value: the minute and the tally change.
+// A value: the minute changes, and with mark 0 the tally.
 pub fn value(mut st: State, r: &[u8]) -> State
     requires { ⌜ InWeek 7 st (now r) ⌝ }
     ensures { λ s. ⌜ s ≡ appliedTo st (now (r .entry)) ⌝ }
@@ -357,6 +361,9 @@ pub fn value(mut st: State, r: &[u8]) -> State
     let q = st.setting;
     st.begun = true;
     st.minute = bytes::read32(r, 4);
+    if r[1] != 0 {
+        return st;
+    }
     st.total = st.total + 1;
     if outside(k, q, r) {
         st.outside = st.outside + 1;

@@ -27,7 +27,7 @@ pub fn formed(r: &[u8]) -> bool
         4 => plain(r, 0, 40),
         5 => plain(r, 1, 32),
         6 => plain(r, 3, 12),
-        7 => plain(r, 0, 28),
+        7 => plain(r, 1, 28),
         8 => plain(r, 0, 8),
         0 => false,
         9..=255 => false,

@@ -86,17 +86,21 @@ with-calibration-requires c κs = search needs
 with-annual-requires : tie.Need-with-annual-requires
 with-annual-requires c κs = search needs
 
+shared-slice-read-with-value : tie.Need-shared-slice-read-with-value
+shared-slice-read-with-value c = search needs
+
 outside-requires : tie.Need-outside-requires
 unfolding kind sets judgedOf
 outside-requires c κs =
-    let j = c .before .before .before in
+    let m = c .before .before in
+    let j = m .before .before in
     let s = j .before .before .before in
-    let k = c .before .match .keys7 in
+    let k = m .match .keys7 in
     rw (judged-is j) (s .pre .1 .calibration, setting-known (stateOf j) (recordOf j) (passed j .placed) (rw k tt) (s .pre .1 .setting), s .pre .0, value-ranged (recordOf j) (passed j .ranged) k)
 
 with-value-requires : tie.Need-with-value-requires
 with-value-requires c κs =
-    let j = c .before .before .before .before in
+    let j = c .before .before .before .before .before in
     let S = j .before .before .before .pre .1 in
     rw (judged-is j) (omega (arith, judged-total (stateOf j) (recordOf j), S .total), omega (arith, judged-outside (stateOf j) (recordOf j), S .outside))
 
@@ -145,11 +149,12 @@ returns-6 c =
     c .with-annual .ensures ∙ ap (λ (s : State). withAnnual s (recordOf j)) (judged-is j) ∙ applied-annual (stateOf j) (recordOf j) k
 
 returns-7 : tie.Need-returns-7
-unfolding kind judgedOf
+unfolding kind mark judgedOf
 returns-7 c =
     let o = c .before in
-    let j = o .before .before .before .before in
-    c .with-value .ensures ∙ rw (o .outside .ensures, judged-is j) (applied-value (stateOf j) (recordOf j) (o .before .before .match .keys7))
+    let m = o .before .before .before in
+    let j = m .before .before in
+    c .with-value .ensures ∙ rw (o .outside .ensures, judged-is j) (applied-value (stateOf j) (recordOf j) (m .match .keys7))
 
 returns-8 : tie.Need-returns-8
 unfolding kind
@@ -182,6 +187,7 @@ apply-spec =
     with-pair-requires
     with-calibration-requires
     with-annual-requires
+    shared-slice-read-with-value
     outside-requires
     with-value-requires
     emptied-requires

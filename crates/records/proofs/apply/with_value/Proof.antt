@@ -1,26 +1,35 @@
 -- `apply::with_value` meets its contract.
+use borrow.Author.Tests.{ne-eqb}
 use Rattle.charts.specs.Tests.{if-yes, if-no}
-use Rattle.records.specs.StateParts.{withTally}
+use Rattle.records.specs.StateParts.{withTally, withValue}
 use borrow.Author.Needs.{needs}
 use Rattle.records.proofs.apply.with_value.Statement.{statement}
 use Rattle.records.proofs.apply.with_value.Tie as tie
 
-add-t4 : tie.Need-add-t4
-add-t4 c = search needs
+returns : tie.Need-returns
+unfolding withValue
+returns c = rw (ne-eqb _ _ (c .if1 .taken))
 
 add-t5 : tie.Need-add-t5
 add-t5 c = search needs
 
-returns : tie.Need-returns
-unfolding withTally
-returns c = rw (if-yes _ _ _ (c .before .before .before .before .before .before .if1 .taken))
-
-add-t18 : tie.Need-add-t18
-add-t18 c = search needs
+add-t6 : tie.Need-add-t6
+add-t6 c = search needs
 
 returns-2 : tie.Need-returns-2
-unfolding withTally
-returns-2 c = rw (if-no _ _ _ (c .before .before .before .before .before .if1 .left))
+unfolding withValue withTally
+returns-2 c =
+    let i = c .before .before .before .before .before .before in
+    rw (i .before .if1 .left, if-yes _ _ _ (i .if2 .taken))
+
+add-t19 : tie.Need-add-t19
+add-t19 c = search needs
+
+returns-3 : tie.Need-returns-3
+unfolding withValue withTally
+returns-3 c =
+    let i = c .before .before .before .before .before in
+    rw (i .before .if1 .left, if-no _ _ _ (i .if2 .left))
 
 pub with-value-spec : {M : Type 1} → statement M
-with-value-spec = tie.close (tie.spec add-t4 add-t5 returns add-t18 returns-2)
+with-value-spec = tie.close (tie.spec returns add-t5 add-t6 returns-2 add-t19 returns-3)
