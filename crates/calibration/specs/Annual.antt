@@ -1,4 +1,4 @@
--- Paper 01, 'Annual test (8.4, 8.5)'. The definitions are those of the calibration, with the function in force.
+-- Paper 01, 'Annual test (8.4, 8.5)', and paper 02, C-12. The definitions are those of the calibration, with the function in force.
 use mathlib.Core.Bool.{Bool, true, false, not, _&&_, _||_}
 use mathlib.Core.List.{List}
 use Prim.Native.Nat.{ℕ, _-_, _*_}
@@ -47,11 +47,11 @@ abbrev pub refusedTest : ℕ → Tested
 refusedTest refusal = record { refusal = refusal; variability = false; function = false }
 
 -- the outcome: refusals 20 and 24 in this order, or the two verdicts
-unfoldable pub testOf : Requirements → Line → List Pair → Tested
-testOf q l ps =
-    let ds : List ℤ = deviationsOf (q .oxygen) l ps in
+unfoldable pub testOf : ℕ → Requirements → Line → List Pair → Tested
+testOf edition q l ps =
+    let ds : List ℤ = deviationsOf edition (q .oxygen) l ps in
     if not (annualCountFits (length ps)) then refusedTest 20
-    else if someBeyond (q .oxygen) l ps then refusedTest 24
+    else if someBeyond edition (q .oxygen) l ps then refusedTest 24
     else record {
       refusal = 0;
       variability = annualVariedOf (length ps) (qOf ds) (q .uncertainty);

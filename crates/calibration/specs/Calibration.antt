@@ -1,4 +1,5 @@
--- Paper 01, 'Calibration (6.4, 6.5)', from the sums over the pairs to the verdict. Every formula is over ℤ, as printed.
+-- Paper 01, 'Calibration (6.4, 6.5)', from the sums over the pairs to the verdict, and paper 02, C-12. Every formula is over ℤ, as printed; whatever rounds
+-- has the edition as its first argument.
 use mathlib.Core.Bool.{Bool, true, false, not, _&&_, _||_}
 use mathlib.Core.List.{List, [], _∷_, map}
 use Prim.Native.Nat.{ℕ, _+_, _-_, _*_}
@@ -57,8 +58,8 @@ plusOf u p = record {
 -- ---- the branch for the slope
 
 -- y', a pair's SRM value in standard conditions
-abbrev pub measuredOf : ℤ → Pair → Standard
-measuredOf reference p = standardOf reference (p .conditions) (p .srm)
+abbrev pub measuredOf : ℕ → ℤ → Pair → Standard
+measuredOf edition reference p = standardOf edition reference (p .conditions) (p .srm)
 
 -- the lower and the higher of two
 unfoldable pub lowerOf : Standard → Standard → Standard
@@ -81,9 +82,9 @@ spanOf [] = record { low = record { 0 = pos 0 }; high = record { 0 = pos 0 } }
 spanOf (v ∷ vs) = spanFrom (record { low = v; high = v }) vs
 
 -- the y' differ by less than 15 % of the limit E: 100(max y' - min y') < 15E
-unfoldable pub flatOf : Requirements → List Pair → Bool
-flatOf q ps =
-    let s : Span = spanOf (map (measuredOf (q .oxygen)) ps) in
+unfoldable pub flatOf : ℕ → Requirements → List Pair → Bool
+flatOf edition q ps =
+    let s : Span = spanOf (map (measuredOf edition (q .oxygen)) ps) in
     ltZ (pos 100 *ℤ (s .high .0 -ℤ s .low .0)) (pos 15 *ℤ q .limit)
 
 -- ---- the function: B is near(100000·m/d), with m and d by the branch, then A from the rounded B
@@ -98,13 +99,13 @@ unfoldable pub divisorOf : Bool → Sums → ℤ → ℤ
 divisorOf true u z = u .x -ℤ pos (u .n) *ℤ z
 divisorOf false u z = pos (u .n) *ℤ u .xx -ℤ u .x *ℤ u .x
 
-abbrev pub slopeOf : Bool → Sums → ℤ → ℤ
-slopeOf flat u z = nearOf (pos 100000 *ℤ riseOf flat u) (divisorOf flat u z)
+abbrev pub slopeOf : ℕ → Bool → Sums → ℤ → ℤ
+slopeOf edition flat u z = nearOf edition (pos 100000 *ℤ riseOf flat u) (divisorOf flat u z)
 
 -- -B·Z, or near((100000Σy - BΣx)/N)
-unfoldable pub interceptOf : Bool → Sums → ℤ → ℤ → ℤ
-interceptOf true u z b = negℤ (b *ℤ z)
-interceptOf false u z b = nearOf (pos 100000 *ℤ u .y -ℤ b *ℤ u .x) (pos (u .n))
+unfoldable pub interceptOf : ℕ → Bool → Sums → ℤ → ℤ → ℤ
+interceptOf edition true u z b = negℤ (b *ℤ z)
+interceptOf edition false u z b = nearOf edition (pos 100000 *ℤ u .y -ℤ b *ℤ u .x) (pos (u .n))
 
 -- the slopes that are not refused
 abbrev pub slopeRangedOf : ℤ → Bool
@@ -113,40 +114,46 @@ slopeRangedOf b = betweenOf (pos 1) (pos 1000000) b
 -- ---- calibrated values
 
 -- near((A + Bx)/100000), in analyser conditions
-unfoldable pub calibratedOf : Line → ℤ → Actual
-calibratedOf l x = record { 0 = nearOf (l .intercept +ℤ l .slope *ℤ x) (pos 100000) }
+unfoldable pub calibratedOf : ℕ → Line → ℤ → Actual
+calibratedOf edition l x = record { 0 = nearOf edition (l .intercept +ℤ l .slope *ℤ x) (pos 100000) }
 
 -- the same brought to standard conditions
-abbrev pub valueOf : ℤ → Line → Conditions → ℤ → Standard
-valueOf reference l k x = standardOf reference k (calibratedOf l x)
+abbrev pub valueOf : ℕ → ℤ → Line → Conditions → ℤ → Standard
+valueOf edition reference l k x = standardOf edition reference k (calibratedOf edition l x)
 
 -- c, a pair's calibrated value in standard conditions
-abbrev pub cOf : ℤ → Line → Pair → Standard
-cOf reference l p = valueOf reference l (p .conditions) (xOf p)
+abbrev pub cOf : ℕ → ℤ → Line → Pair → Standard
+cOf edition reference l p = valueOf edition reference l (p .conditions) (xOf p)
 
 -- beyond ±10,000,000
 abbrev pub farOf : Standard → Bool
 farOf v = not (betweenOf (negℤ (pos 10000000)) (pos 10000000) (v .0))
 
 -- a pair whose y' or c is beyond ±10,000,000, and a list that has one
-unfoldable pub beyondOf : ℤ → Line → Pair → Bool
-beyondOf reference l p = farOf (measuredOf reference p) || farOf (cOf reference l p)
+unfoldable pub beyondOf : ℕ → ℤ → Line → Pair → Bool
+beyondOf edition reference l p = farOf (measuredOf edition reference p) || farOf (cOf edition reference l p)
 
-abbrev pub someBeyond : ℤ → Line → List Pair → Bool
-someBeyond reference l [] = false
-someBeyond reference l (p ∷ ps) = beyondOf reference l p || someBeyond reference l ps
+abbrev pub someBeyond : ℕ → ℤ → Line → List Pair → Bool
+someBeyond edition reference l [] = false
+someBeyond edition reference l (p ∷ ps) = beyondOf edition reference l p || someBeyond edition reference l ps
 
 -- D = y' - c
-abbrev pub residualOf : ℤ → Line → Pair → ℤ
-residualOf reference l p = measuredOf reference p .0 -ℤ cOf reference l p .0
+abbrev pub residualOf : ℕ → ℤ → Line → Pair → ℤ
+residualOf edition reference l p = measuredOf edition reference p .0 -ℤ cOf edition reference l p .0
 
 -- the D's of a list of pairs
-abbrev pub deviationsOf : ℤ → Line → List Pair → List ℤ
-deviationsOf reference l ps = map (residualOf reference l) ps
+abbrev pub deviationsOf : ℕ → ℤ → Line → List Pair → List ℤ
+deviationsOf edition reference l ps = map (residualOf edition reference l) ps
 
--- near(110·max c/100)
-abbrev pub topOf : Standard → Standard
-topOf most = record { 0 = nearOf (pos 110 *ℤ most .0) (pos 100) }
+-- near(percent·v/100)
+abbrev pub shareOf : ℕ → ℤ → ℤ → Standard
+shareOf edition percent v = record { 0 = nearOf edition (percent *ℤ v) (pos 100) }
+
+-- near(110·max c/100); in edition 2 the higher of it and near(20·E/100) (paper 02, C-12)
+unfoldable pub topOf : ℕ → ℤ → Standard → Standard
+topOf edition limit most =
+    if eqb edition 2 then higherOf (shareOf edition (pos 110) (most .0)) (shareOf edition (pos 20) limit)
+    else shareOf edition (pos 110) (most .0)
 
 -- ΣD and ΣD²
 abbrev pub total : List ℤ → ℤ
@@ -160,11 +167,11 @@ unfoldable pub qOf : List ℤ → ℤ
 qOf ds = pos (length ds) *ℤ squares ds -ℤ total ds *ℤ total ds
 
 -- max c, ΣD, ΣD²
-unfoldable pub residualsOf : ℤ → Line → List Pair → Residuals
-residualsOf reference l ps = record {
-  most = spanOf (map (cOf reference l) ps) .high;
-  sum = total (deviationsOf reference l ps);
-  squares = squares (deviationsOf reference l ps);
+unfoldable pub residualsOf : ℕ → ℤ → Line → List Pair → Residuals
+residualsOf edition reference l ps = record {
+  most = spanOf (map (cOf edition reference l) ps) .high;
+  sum = total (deviationsOf edition reference l ps);
+  squares = squares (deviationsOf edition reference l ps);
 }
 
 -- ---- the verdict
@@ -202,30 +209,30 @@ refusedFit refusal = record {
 }
 
 -- the function stands: 24, or the verdict
-unfoldable pub lineFits : Requirements → List Pair → Line → Fitted
-lineFits q ps l =
-    if someBeyond (q .oxygen) l ps then refusedFit 24
+unfoldable pub lineFits : ℕ → Requirements → List Pair → Line → Fitted
+lineFits edition q ps l =
+    if someBeyond edition (q .oxygen) l ps then refusedFit 24
     else record {
       refusal = 0;
-      passed = variedOf (length ps) (qOf (deviationsOf (q .oxygen) l ps)) (q .uncertainty);
+      passed = variedOf (length ps) (qOf (deviationsOf edition (q .oxygen) l ps)) (q .uncertainty);
       line = l;
-      top = topOf (spanOf (map (cOf (q .oxygen) l) ps) .high);
+      top = topOf edition (q .limit) (spanOf (map (cOf edition (q .oxygen) l) ps) .high);
       count = length ps;
     }
 
 -- from the sums on: 22, 23, then the function
-unfoldable pub fitFrom : Requirements → ℤ → List Pair → Sums → Fitted
-fitFrom q z ps u =
-    let flat : Bool = flatOf q ps in
-    let b : ℤ = slopeOf flat u z in
+unfoldable pub fitFrom : ℕ → Requirements → ℤ → List Pair → Sums → Fitted
+fitFrom edition q z ps u =
+    let flat : Bool = flatOf edition q ps in
+    let b : ℤ = slopeOf edition flat u z in
     if leZ (divisorOf flat u z) (pos 0) then refusedFit 22
     else if not (slopeRangedOf b) then refusedFit 23
-    else lineFits q ps (record { slope = b; intercept = interceptOf flat u z b })
+    else lineFits edition q ps (record { slope = b; intercept = interceptOf edition flat u z b })
 
-unfoldable pub fitOf : Requirements → ℤ → List Pair → Fitted
-fitOf q z ps =
+unfoldable pub fitOf : ℕ → Requirements → ℤ → List Pair → Fitted
+fitOf edition q z ps =
     if not (countFits (length ps)) then refusedFit 20
-    else fitFrom q z ps (sumsOf ps)
+    else fitFrom edition q z ps (sumsOf ps)
 
 -- ---- the range of a function: it holds every one that a fit gives
 

@@ -1,4 +1,4 @@
--- Paper 01, 'Cases': the eleven starred ones, jointly, as facts of the definitions.
+-- Paper 01, 'Cases': the eleven starred ones, jointly, as facts of the definitions in edition 1.
 use mathlib.Core.Path.{_≡_, refl, ap}
 use mathlib.Core.Bool.{Bool, true, false}
 use mathlib.Core.List.{List, _∷_}
@@ -7,7 +7,7 @@ use lib.IntN.{ℤ, pos, _-ℤ_}
 use lib.ListN.{length, replicate}
 use lib.Signed.{_<ℤ_}
 use Rattle.charts.specs.Integers.{diff, le-ud, ud-lt}
-use Rattle.charts.specs.Rounding.{nearOf}
+use Rattle.charts.specs.Rounding.{odd, roundsUp, nearOf}
 use Rattle.charts.specs.RoundingLaws.{near-whole}
 use Rattle.charts.specs.ChartCases.{ChartCases, chart-cases}
 use Rattle.calibration.specs.Pairs.{OxygenRanged}
@@ -34,7 +34,7 @@ pub record Cases : Type 0 where
   pub charts : ChartCases
   -- 7, whatever the reference oxygen
   pub standard : (o : ℤ) → OxygenRanged o
-      → standardOf o (record { temperature = pos 10000; pressure = pos 0; water = pos 1000; oxygen = o }) (record { 0 = pos 10000 }) ≡ record { 0 = pos 15179 }
+      → standardOf 1 o (record { temperature = pos 10000; pressure = pos 0; water = pos 1000; oxygen = o }) (record { 0 = pos 10000 }) ≡ record { 0 = pos 15179 }
   -- 8 and 9
   pub dispersed : (qOf (one (pos 3)) ≡ pos 126) × (passes (one (pos 3)) (pos 1) ≡ true)
   pub overdispersed : (qOf (one (pos 4)) ≡ pos 224) × (passes (one (pos 4)) (pos 1) ≡ false)
@@ -44,11 +44,11 @@ pub record Cases : Type 0 where
 
 -- the oxygen factor is then 1
 standard-is : (o : ℤ) → OxygenRanged o
-    → standardOf o (record { temperature = pos 10000; pressure = pos 0; water = pos 1000; oxygen = o }) (record { 0 = pos 10000 }) ≡ record { 0 = pos 15179 }
-unfolding standardOf nearOf
+    → standardOf 1 o (record { temperature = pos 10000; pressure = pos 0; water = pos 1000; oxygen = o }) (record { 0 = pos 10000 }) ≡ record { 0 = pos 15179 }
+unfolding standardOf nearOf roundsUp odd
 standard-is o O =
     let d : pos 0 <ℤ (pos 2100 -ℤ o) = ud-lt (omega (arith, le-ud (O .high), diff (pos 2100) o)) in
-    ap (λ (z : ℤ). record { 0 = z }) (near-whole (pos 15179) (pos 2100 -ℤ o) d)
+    ap (λ (z : ℤ). record { 0 = z }) (near-whole 1 (pos 15179) (pos 2100 -ℤ o) d)
 
 pub cases : Cases
 unfolding qOf variedOf kOf functionOf tOf

@@ -28,9 +28,9 @@ pub record SumsRanged (u : Sums) : Type 0 where
   pub xx : Between (pos 0) (pos (160000000000 * u .n)) (u .xx)
 
 -- B where it is in its range, else 0
-unfoldable pub slopeCode : ℤ → ℤ → ℤ
-slopeCode rise divisor =
-    if slopeRangedOf (nearOf (pos 100000 *ℤ rise) divisor) then nearOf (pos 100000 *ℤ rise) divisor
+unfoldable pub slopeCode : ℕ → ℤ → ℤ → ℤ
+slopeCode edition rise divisor =
+    if slopeRangedOf (nearOf edition (pos 100000 *ℤ rise) divisor) then nearOf edition (pos 100000 *ℤ rise) divisor
     else pos 0
 
 -- one pair more in the residuals
@@ -77,22 +77,22 @@ module _ (n : ℕ) (sum : ℤ) (q σ : ℕ) where
 -- ---- the slope, from an unsigned quotient
 
 -- a numerator that is not above 0 gives no slope
-pub slope-none : (rise divisor : ℤ) → rise ≤ℤ pos 0 → pos 0 <ℤ divisor → slopeCode rise divisor ≡ pos 0
+pub slope-none : (edition : ℕ) → (rise divisor : ℤ) → rise ≤ℤ pos 0 → pos 0 <ℤ divisor → slopeCode edition rise divisor ≡ pos 0
 unfolding slopeCode
-slope-none rise divisor h k =
-    let b = nearOf (pos 100000 *ℤ rise) divisor in
-    let l : b ≤ℤ pos 0 = near-nonpos (pos 100000 *ℤ rise) divisor k (ud-le (omega (arith, le-ud h, prod (pos 100000) rise))) in
+slope-none edition rise divisor h k =
+    let b = nearOf edition (pos 100000 *ℤ rise) divisor in
+    let l : b ≤ℤ pos 0 = near-nonpos edition (pos 100000 *ℤ rise) divisor k (ud-le (omega (arith, le-ud h, prod (pos 100000) rise))) in
     rw (lt-leZ {a = pos 1} {b = b} (ud-lt (omega (arith, le-ud l))))
 
--- one that is too steep either
-pub slope-steep : (rise divisor : ℤ) (b : ℕ) → pos b ≡ nearOf (pos 100000 *ℤ rise) divisor → 1000000 < b → slopeCode rise divisor ≡ pos 0
+-- nor is one that is too steep
+pub slope-steep : (edition : ℕ) → (rise divisor : ℤ) (b : ℕ) → pos b ≡ nearOf edition (pos 100000 *ℤ rise) divisor → 1000000 < b → slopeCode edition rise divisor ≡ pos 0
 unfolding slopeCode
-slope-steep rise divisor b e h = rw (sym e, le-leb 1 b (omega arith), lt-leb b 1000000 h)
+slope-steep edition rise divisor b e h = rw (sym e, le-leb 1 b (omega arith), lt-leb b 1000000 h)
 
-pub slope-fits : (rise divisor : ℤ) (b : ℕ) → pos b ≡ nearOf (pos 100000 *ℤ rise) divisor → b ≤ 1000000 → slopeCode rise divisor ≡ pos b
+pub slope-fits : (edition : ℕ) → (rise divisor : ℤ) (b : ℕ) → pos b ≡ nearOf edition (pos 100000 *ℤ rise) divisor → b ≤ 1000000 → slopeCode edition rise divisor ≡ pos b
 unfolding slopeCode
-slope-fits rise divisor zero e h = rw (sym e)
-slope-fits rise divisor (suc b) e h = rw (sym e, le-leb (suc b) 1000000 h, le-leb 1 (suc b) (omega arith))
+slope-fits edition rise divisor zero e h = rw (sym e)
+slope-fits edition rise divisor (suc b) e h = rw (sym e, le-leb (suc b) 1000000 h, le-leb 1 (suc b) (omega arith))
 
 -- it is 0 exactly where B is outside its range
 refused : (b : ℤ) (t : Bool) → slopeRangedOf b ≡ t → (if t then b else pos 0) ≡ pos 0 → t ≡ false
@@ -103,11 +103,11 @@ taken : (b : ℤ) (t : Bool) → ((if t then b else pos 0) ≡ pos 0 → ⊥) �
 taken b true h = (refl, refl)
 taken b false h = absurd (h refl)
 
-module _ (rise divisor : ℤ) where
-  pub slope-refused : slopeCode rise divisor ≡ pos 0 → slopeRangedOf (nearOf (pos 100000 *ℤ rise) divisor) ≡ false
+module _ (edition : ℕ) (rise divisor : ℤ) where
+  pub slope-refused : slopeCode edition rise divisor ≡ pos 0 → slopeRangedOf (nearOf edition (pos 100000 *ℤ rise) divisor) ≡ false
   unfolding slopeCode
-  slope-refused e = let b = nearOf (pos 100000 *ℤ rise) divisor in refused b (slopeRangedOf b) refl e
+  slope-refused e = let b = nearOf edition (pos 100000 *ℤ rise) divisor in refused b (slopeRangedOf b) refl e
 
-  pub slope-taken : (slopeCode rise divisor ≡ pos 0 → ⊥) → (slopeRangedOf (nearOf (pos 100000 *ℤ rise) divisor) ≡ true) × (slopeCode rise divisor ≡ nearOf (pos 100000 *ℤ rise) divisor)
+  pub slope-taken : (slopeCode edition rise divisor ≡ pos 0 → ⊥) → (slopeRangedOf (nearOf edition (pos 100000 *ℤ rise) divisor) ≡ true) × (slopeCode edition rise divisor ≡ nearOf edition (pos 100000 *ℤ rise) divisor)
   unfolding slopeCode
-  slope-taken h = let b = nearOf (pos 100000 *ℤ rise) divisor in taken b (slopeRangedOf b) h
+  slope-taken h = let b = nearOf edition (pos 100000 *ℤ rise) divisor in taken b (slopeRangedOf b) h

@@ -76,25 +76,25 @@ pub record Sized (m : ℕ) (z : ℤ) : Type 0 where
   pub size : natAbs z ≤ m
 
 -- one factor
-pub times-sized : {f m : ℕ} {v n d : ℤ} → Factor f n d → Sized m v → Sized (f * m) (timesOf v n d)
-times-sized {f} {m} {v} {n} {d} F S = record {
-  size = near-bound (v *ℤ n) d (f * m) (F .above) (omega (arith, abs-prod v n, mul-le-mul {n₂ = m} {m₂ = f * natAbs d} (S .size) (F .most)));
+pub times-sized : (edition : ℕ) {f m : ℕ} {v n d : ℤ} → Factor f n d → Sized m v → Sized (f * m) (timesOf edition v n d)
+times-sized edition {f} {m} {v} {n} {d} F S = record {
+  size = near-bound edition (v *ℤ n) d (f * m) (F .above) (omega (arith, abs-prod v n, mul-le-mul {n₂ = m} {m₂ = f * natAbs d} (S .size) (F .most)));
 }
 
 -- all four, rounded after each
-standard-is : (reference : ℤ) (k : Conditions) (v : Actual) →
-    let t = timesOf (v .0) (pos 27315 +ℤ k .temperature) (pos 27315) in
-    let p = timesOf t (pos 10130) (pos 10130 +ℤ k .pressure) in
-    let h = timesOf p (pos 10000) (pos 10000 -ℤ k .water) in
-    standardOf reference k v .0 ≡ timesOf h (pos 2100 -ℤ reference) (pos 2100 -ℤ k .oxygen)
+standard-is : (edition : ℕ) (reference : ℤ) (k : Conditions) (v : Actual) →
+    let t = timesOf edition (v .0) (pos 27315 +ℤ k .temperature) (pos 27315) in
+    let p = timesOf edition t (pos 10130) (pos 10130 +ℤ k .pressure) in
+    let h = timesOf edition p (pos 10000) (pos 10000 -ℤ k .water) in
+    standardOf edition reference k v .0 ≡ timesOf edition h (pos 2100 -ℤ reference) (pos 2100 -ℤ k .oxygen)
 unfolding standardOf
-standard-is reference k v = refl
+standard-is edition reference k v = refl
 
-pub standard-bound : (reference : ℤ) (k : Conditions) (v : Actual) (m : ℕ) → OxygenRanged reference → ConditionsRanged k → natAbs (v .0) ≤ m → natAbs (standardOf reference k v .0) ≤ 84 * m
-standard-bound reference k v m R C h =
+pub standard-bound : (edition : ℕ) (reference : ℤ) (k : Conditions) (v : Actual) (m : ℕ) → OxygenRanged reference → ConditionsRanged k → natAbs (v .0) ≤ m → natAbs (standardOf edition reference k v .0) ≤ 84 * m
+standard-bound edition reference k v m R C h =
     let S : Sized m (v .0) = record { size = h } in
-    let b = times-sized (oxygen-factor C R) (times-sized (water-factor C) (times-sized (pressure-factor C) (times-sized (temperature-factor C) S))) in
-    omega (arith, b .size, ap natAbs (standard-is reference k v))
+    let b = times-sized edition (oxygen-factor C R) (times-sized edition (water-factor C) (times-sized edition (pressure-factor C) (times-sized edition (temperature-factor C) S))) in
+    omega (arith, b .size, ap natAbs (standard-is edition reference k v))
 
 -- ---- calibrated values
 
@@ -107,24 +107,24 @@ module _ {l : Line} {x : ℤ} (L : LineRanged l) (X : Between (pos 0) (pos 40000
   pub line-bound : natAbs (l .intercept +ℤ l .slope *ℤ x) ≤ 800000000000
   line-bound = omega (arith, abs-sum (l .intercept) (l .slope *ℤ x), between-abs (L .intercept), bx-bound)
 
-pub calibrated-bound : (l : Line) (x : ℤ) → LineRanged l → Between (pos 0) (pos 400000) x → natAbs (calibratedOf l x .0) ≤ 8000000
+pub calibrated-bound : (edition : ℕ) (l : Line) (x : ℤ) → LineRanged l → Between (pos 0) (pos 400000) x → natAbs (calibratedOf edition l x .0) ≤ 8000000
 unfolding calibratedOf
-calibrated-bound l x L X = near-bound (l .intercept +ℤ l .slope *ℤ x) (pos 100000) 8000000 (omega ints) (omega (arith, line-bound L X))
+calibrated-bound edition l x L X = near-bound edition (l .intercept +ℤ l .slope *ℤ x) (pos 100000) 8000000 (omega ints) (omega (arith, line-bound L X))
 
 -- A calibrated value in standard conditions fits i32, for every function a fit can give, every signal and all conditions in range.
-module _ (reference : ℤ) (l : Line) (k : Conditions) (x : ℤ) (R : OxygenRanged reference) (L : LineRanged l) (C : ConditionsRanged k) (X : Between (pos 0) (pos 400000) x) where
-  pub value-bound : natAbs (valueOf reference l k x .0) ≤ 672000000
-  value-bound = standard-bound reference k (calibratedOf l x) 8000000 R C (calibrated-bound l x L X)
+module _ (edition : ℕ) (reference : ℤ) (l : Line) (k : Conditions) (x : ℤ) (R : OxygenRanged reference) (L : LineRanged l) (C : ConditionsRanged k) (X : Between (pos 0) (pos 400000) x) where
+  pub value-bound : natAbs (valueOf edition reference l k x .0) ≤ 672000000
+  value-bound = standard-bound edition reference k (calibratedOf edition l x) 8000000 R C (calibrated-bound edition l x L X)
 
-  pub value-fits : SFits w32 (valueOf reference l k x .0)
+  pub value-fits : SFits w32 (valueOf edition reference l k x .0)
   value-fits = abs-sfits (omega (arith, value-bound))
 
 -- y' and c of a pair in range
-pub measured-bound : {reference : ℤ} {p : Pair} → OxygenRanged reference → PairRanged p → natAbs (measuredOf reference p .0) ≤ 33600000
-measured-bound {reference} {p} R P = standard-bound reference (p .conditions) (p .srm) 400000 R (P .conditions) (between-abs (P .srm))
+pub measured-bound : (edition : ℕ) {reference : ℤ} {p : Pair} → OxygenRanged reference → PairRanged p → natAbs (measuredOf edition reference p .0) ≤ 33600000
+measured-bound edition {reference} {p} R P = standard-bound edition reference (p .conditions) (p .srm) 400000 R (P .conditions) (between-abs (P .srm))
 
-pub c-bound : {reference : ℤ} {l : Line} {p : Pair} → OxygenRanged reference → LineRanged l → PairRanged p → natAbs (cOf reference l p .0) ≤ 672000000
-c-bound {reference} {l} {p} R L P = value-bound reference l (p .conditions) (p .signal) R L (P .conditions) (P .signal)
+pub c-bound : (edition : ℕ) {reference : ℤ} {l : Line} {p : Pair} → OxygenRanged reference → LineRanged l → PairRanged p → natAbs (cOf edition reference l p .0) ≤ 672000000
+c-bound edition {reference} {l} {p} R L P = value-bound edition reference l (p .conditions) (p .signal) R L (P .conditions) (P .signal)
 
 -- ---- the range of a function, as a test
 pub line-answers : (l : Line) → Answers (lineRangedOf l) (LineRanged l)

@@ -90,8 +90,8 @@ opposite {m} {x} h =
     let f₄ = dn-neg (pos m) in
     record { low = ud-le (omega arith); high = ud-le (omega arith) }
 
-module _ {u : Sums} {z b : ℤ} (U : SumsRanged u) (N : 0 < u .n) (Z : ZRanged z) (B : Between (pos 1) (pos 1000000) b) where
-  intercept-bound : (flat : Bool) → natAbs (interceptOf flat u z b) ≤ 400000000000
+module _ (edition : ℕ) {u : Sums} {z b : ℤ} (U : SumsRanged u) (N : 0 < u .n) (Z : ZRanged z) (B : Between (pos 1) (pos 1000000) b) where
+  intercept-bound : (flat : Bool) → natAbs (interceptOf edition flat u z b) ≤ 400000000000
   unfolding interceptOf
   intercept-bound true =
       let p = b *ℤ z in
@@ -101,7 +101,7 @@ module _ {u : Sums} {z b : ℤ} (U : SumsRanged u) (N : 0 < u .n) (Z : ZRanged z
       let Y : Between (pos 0) (pos (400000000000 * n)) (pos 100000 *ℤ u .y) = within (product-between (up-to {m = 100000} (omega arith)) (U .y)) (omega arith) in
       let B₀ : Between (pos 0) (pos 1000000) b = record { low = between-above B; high = B .high } in
       let X : Between (pos 0) (pos (400000000000 * n)) (b *ℤ u .x) = within (product-between B₀ (U .x)) (omega arith) in
-      near-bound (pos 100000 *ℤ u .y -ℤ b *ℤ u .x) (pos n) 400000000000 (ud-lt (omega arith)) (apart Y X)
+      near-bound edition (pos 100000 *ℤ u .y -ℤ b *ℤ u .x) (pos n) 400000000000 (ud-lt (omega arith)) (apart Y X)
 
-  pub line-ranged : (flat : Bool) → LineRanged (record { slope = b; intercept = interceptOf flat u z b })
+  pub line-ranged : (flat : Bool) → LineRanged (record { slope = b; intercept = interceptOf edition flat u z b })
   line-ranged flat = record { slope = B; intercept = opposite (intercept-bound flat) }

@@ -38,25 +38,25 @@ counted : (ps : List Pair) → 0 < length ps → 0 < sumsOf ps .n
 unfolding sumsOf
 counted ps h = h
 
-module _ (q : Requirements) (z : ℤ) (ps : List Pair) where
-  line-fits-ranges : (l : Line) → LineRanged l → Ranges (lineFits q ps l)
+module _ (edition : ℕ) (q : Requirements) (z : ℤ) (ps : List Pair) where
+  line-fits-ranges : (l : Line) → LineRanged l → Ranges (lineFits edition q ps l)
   unfolding lineFits
-  line-fits-ranges l L = if-all Ranges (someBeyond (q .oxygen) l ps) _ _ (λ t. refused-ranges 24 (omega arith)) (λ t e. L)
+  line-fits-ranges l L = if-all Ranges (someBeyond edition (q .oxygen) l ps) _ _ (λ t. refused-ranges 24 (omega arith)) (λ t e. L)
 
   module _ (Z : ZRanged z) (all : AllRanged ps) (few : length ps ≤ 30) (some : 0 < length ps) where
-    from-ranges : Ranges (fitFrom q z ps (sumsOf ps))
+    from-ranges : Ranges (fitFrom edition q z ps (sumsOf ps))
     unfolding fitFrom
     from-ranges =
-        let flat = flatOf q ps in
-        let b = slopeOf flat (sumsOf ps) z in
+        let flat = flatOf edition q ps in
+        let b = slopeOf edition flat (sumsOf ps) z in
         if-all Ranges (leZ (divisorOf flat (sumsOf ps) z) (pos 0)) _ _ (λ t. refused-ranges 22 (omega arith))
         (λ t. if-all Ranges (not (slopeRangedOf b)) _ _ (λ u. refused-ranges 23 (omega arith))
-        (λ u. line-fits-ranges (record { slope = b; intercept = interceptOf flat (sumsOf ps) z b })
-        (line-ranged (sums-ranged ps all few) (counted ps some) Z (between-answers (pos 1) (pos 1000000) b .sure (T-not-not (slopeRangedOf b) u)) flat)))
+        (λ u. line-fits-ranges (record { slope = b; intercept = interceptOf edition flat (sumsOf ps) z b })
+        (line-ranged edition (sums-ranged ps all few) (counted ps some) Z (between-answers (pos 1) (pos 1000000) b .sure (T-not-not (slopeRangedOf b) u)) flat)))
 
-pub fitted-ranged : (q : Requirements) (z : ℤ) (ps : List Pair) → RequirementsRanged q → ZRanged z → AllRanged ps → length ps ≤ 30
-    → fitOf q z ps .refusal ≡ 0 → LineRanged (fitOf q z ps .line)
+pub fitted-ranged : (edition : ℕ) (q : Requirements) (z : ℤ) (ps : List Pair) → RequirementsRanged q → ZRanged z → AllRanged ps → length ps ≤ 30
+    → fitOf edition q z ps .refusal ≡ 0 → LineRanged (fitOf edition q z ps .line)
 unfolding fitOf
-fitted-ranged q z ps Q Z all few =
+fitted-ranged edition q z ps Q Z all few =
     if-all Ranges (not (countFits (length ps))) _ _ (λ t. refused-ranges 20 (omega arith))
-    (λ t. from-ranges q z ps Z all few (count-above (length ps) (T-true (countFits (length ps)) (T-not-not (countFits (length ps)) t))))
+    (λ t. from-ranges edition q z ps Z all few (count-above (length ps) (T-true (countFits (length ps)) (T-not-not (countFits (length ps)) t))))

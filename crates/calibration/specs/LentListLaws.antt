@@ -11,6 +11,7 @@ use lib.IntN.{ℤ, pos, negℤ}
 use lib.ListN.{length, take, set, replicate, length-append, length-set}
 use lib.Seq.{take-all, take-append-le, take-suc-set}
 use Rattle.charts.specs.Tests.{if_then_else_, if-yes, if-no, if-all, Answers, answers-and}
+use Rattle.charts.specs.Rounding.{editionKnown}
 use Rattle.calibration.specs.Pairs.{AllRanged, RequirementsRanged, ZRanged, pairRangedOf, requirementsRangedOf, zRangedOf, pair-answers, requirements-answers, between-answers}
 use Rattle.calibration.specs.Calibration.{countFits, refusedFit, fitOf}
 use Rattle.calibration.specs.LentList.{allRangedOf, listRangedOf, fitListOf}
@@ -18,6 +19,7 @@ use Rattle.calibration.specs.FitRange.{T-true}
 use Rattle.calibration.specs.ListLaws.{unset}
 use Rattle.calibration.specs.VerdictLaws.{count-unfit}
 use Rattle.calibration.specs.declared.Pair.{Pair}
+use Rattle.calibration.specs.declared.Basis.{Basis}
 use Rattle.calibration.specs.declared.Requirements.{Requirements}
 use Rattle.calibration.specs.declared.Gathered.{Gathered}
 use Rattle.calibration.specs.declared.Fitted.{Fitted}
@@ -32,9 +34,15 @@ pub list-answers : (q : Requirements) (z : ℤ) (ps : List Pair) → Answers (li
 list-answers q z ps = answers-and (answers-and (requirements-answers q) (between-answers (negℤ (pos 10000)) (pos 10000) z)) (all-answers ps)
 
 -- where all is in range, the list's fit is that of a closing
-pub list-fits : (q : Requirements) (z : ℤ) (ps : List Pair) → RequirementsRanged q → ZRanged z → AllRanged ps → fitListOf q z ps ≡ fitOf q z ps
+pub list-fits : (b : Basis) (z : ℤ) (ps : List Pair) → editionKnown (b .edition) ≡ true → RequirementsRanged (b .requirements) → ZRanged z → AllRanged ps
+    → fitListOf b z ps ≡ fitOf (b .edition) (b .requirements) z ps
 unfolding fitListOf
-list-fits q z ps Q Z P = if-all (λ (r : Fitted). r ≡ fitOf q z ps) (not (listRangedOf q z ps)) _ _ (λ t. absurd (T-not (listRangedOf q z ps) t (list-answers q z ps .back ((Q, Z), P)))) (λ t. refl)
+list-fits b z ps K Q Z P =
+    let q = b .requirements in
+    if-no (not (editionKnown (b .edition))) _ _ (ap not K)
+    ∙ if-all (λ (r : Fitted). r ≡ fitOf (b .edition) q z ps) (not (listRangedOf q z ps)) _ _
+    (λ t. absurd (T-not (listRangedOf q z ps) t (list-answers q z ps .back ((Q, Z), P))))
+    (λ t. refl)
 
 -- with one pair more
 all-snoc : (ps : List Pair) (p : Pair) → allRangedOf ps && pairRangedOf p ≡ allRangedOf (ps ++ p ∷ [])
@@ -69,11 +77,12 @@ gatherOf g p =
     else record { pairs = set (g .pairs) (g .count) p; count = g .count + 1; ranged = g .ranged && pairRangedOf p }
 
 -- the fit of what is gathered
-unfoldable pub gatheredFit : Gathered → Requirements → ℤ → Fitted
-gatheredFit g q z =
-    if not ((requirementsRangedOf q && zRangedOf z) && g .ranged) then refusedFit 13
+unfoldable pub gatheredFit : Gathered → Basis → ℤ → Fitted
+gatheredFit g b z =
+    if not (editionKnown (b .edition)) then refusedFit 3
+    else if not ((requirementsRangedOf (b .requirements) && zRangedOf z) && g .ranged) then refusedFit 13
     else if ltb 30 (g .count) then refusedFit 20
-    else fitOf q z (take (g .count) (g .pairs))
+    else fitOf (b .edition) (b .requirements) z (take (g .count) (g .pairs))
 
 -- ---- the two branch by branch
 
@@ -87,7 +96,10 @@ module _ (g : Gathered) (p : Pair) (ranged : Bool) (R : ranged ≡ pairRangedOf 
   unfolding gatherOf
   gathers-kept h = ap (λ (t : Bool). record { pairs = set (g .pairs) (g .count) p; count = g .count + 1; ranged = g .ranged && t }) R ∙ sym (if-no (leb 30 (g .count)) _ _ (lt-leb 30 (g .count) h))
 
-module _ (g : Gathered) (q : Requirements) (z : ℤ) where
+module _ (g : Gathered) (b : Basis) (z : ℤ) where
+  abbrev q : Requirements
+  q = b .requirements
+
   -- all is in range, as the code tests it
   abbrev pub gatheredRanged : Bool
   gatheredRanged = (requirementsRangedOf q && zRangedOf z) && g .ranged
@@ -97,18 +109,24 @@ module _ (g : Gathered) (q : Requirements) (z : ℤ) where
       answers-and (answers-and (requirements-answers q) (between-answers (negℤ (pos 10000)) (pos 10000) z))
       (record { sure = T-true (g .ranged); back = λ e. subst T (sym e) tt })
 
-  pub gathered-unranged : gatheredRanged ≡ false → gatheredFit g q z ≡ refusedFit 13
+  pub gathered-unknown : editionKnown (b .edition) ≡ false → gatheredFit g b z ≡ refusedFit 3
   unfolding gatheredFit
-  gathered-unranged h = if-yes (not gatheredRanged) _ _ (ap not h)
+  gathered-unknown h = if-yes (not (editionKnown (b .edition))) _ _ (ap not h)
 
-  module _ (h : gatheredRanged ≡ true) where
-    pub gathered-over : 30 < g .count → gatheredFit g q z ≡ refusedFit 20
+  module _ (K : editionKnown (b .edition) ≡ true) where
+    known : gatheredFit g b z ≡ (if not gatheredRanged then refusedFit 13 else if ltb 30 (g .count) then refusedFit 20 else fitOf (b .edition) q z (take (g .count) (g .pairs)))
     unfolding gatheredFit
-    gathered-over k = if-no (not gatheredRanged) _ _ (ap not h) ∙ if-yes (ltb 30 (g .count)) _ _ (lt-ltb 30 (g .count) k)
+    known = if-no (not (editionKnown (b .edition))) _ _ (ap not K)
 
-    pub gathered-fit : g .count ≤ 30 → gatheredFit g q z ≡ fitOf q z (take (g .count) (g .pairs))
-    unfolding gatheredFit
-    gathered-fit k = if-no (not gatheredRanged) _ _ (ap not h) ∙ if-no (ltb 30 (g .count)) _ _ (le-ltb 30 (g .count) k)
+    pub gathered-unranged : gatheredRanged ≡ false → gatheredFit g b z ≡ refusedFit 13
+    gathered-unranged h = known ∙ if-yes (not gatheredRanged) _ _ (ap not h)
+
+    module _ (h : gatheredRanged ≡ true) where
+      pub gathered-over : 30 < g .count → gatheredFit g b z ≡ refusedFit 20
+      gathered-over k = known ∙ if-no (not gatheredRanged) _ _ (ap not h) ∙ if-yes (ltb 30 (g .count)) _ _ (lt-ltb 30 (g .count) k)
+
+      pub gathered-fit : g .count ≤ 30 → gatheredFit g b z ≡ fitOf (b .edition) q z (take (g .count) (g .pairs))
+      gathered-fit k = known ∙ if-no (not gatheredRanged) _ _ (ap not h) ∙ if-no (ltb 30 (g .count)) _ _ (le-ltb 30 (g .count) k)
 
 -- ---- g is what is gathered of the list ps
 pub record Gathers (g : Gathered) (ps : List Pair) : Type 0 where
@@ -155,15 +173,25 @@ module _ (g : Gathered) (ps : List Pair) (G : Gathers g ps) where
   pub gathers-ranged : g .ranged ≡ true → AllRanged (take (g .count) (g .pairs))
   gathers-ranged t = subst AllRanged (sym (G .first)) (all-take 30 ps (all-answers ps .sure (subst T (sym t ∙ G .ranged) tt)))
 
-  module _ (q : Requirements) (z : ℤ) where
-    fits : (if ltb 30 (g .count) then refusedFit 20 else fitOf q z (take (g .count) (g .pairs))) ≡ fitOf q z ps
-    fits =
-        if-all (λ (r : Fitted). r ≡ fitOf q z ps) (ltb 30 (g .count)) _ _
-        (λ t. sym (count-unfit q z ps (count-over (length ps) (omega (arith, G .count, ltb→lt 30 (g .count) t)))))
-        (λ t. ap (fitOf q z) (G .first ∙ take-all 30 ps (omega (arith, G .count, nltb→le 30 (g .count) t))))
+  module _ (b : Basis) (z : ℤ) where
+    abbrev fitted : List Pair → Fitted
+    fitted l = fitOf (b .edition) (b .requirements) z l
 
-    pub gathers-fit : gatheredFit g q z ≡ fitListOf q z ps
+    fits : (if ltb 30 (g .count) then refusedFit 20 else fitted (take (g .count) (g .pairs))) ≡ fitted ps
+    fits =
+        if-all (λ (r : Fitted). r ≡ fitted ps) (ltb 30 (g .count)) _ _
+        (λ t. sym (count-unfit (b .edition) (b .requirements) z ps (count-over (length ps) (omega (arith, G .count, ltb→lt 30 (g .count) t)))))
+        (λ t. ap fitted (G .first ∙ take-all 30 ps (omega (arith, G .count, nltb→le 30 (g .count) t))))
+
+    -- behind 3: what is ranged, and what it then gives
+    abbrev behind : Bool → Fitted → Fitted
+    behind ranged r =
+        if not (editionKnown (b .edition)) then refusedFit 3
+        else if not ((requirementsRangedOf (b .requirements) && zRangedOf z) && ranged) then refusedFit 13
+        else r
+
+    pub gathers-fit : gatheredFit g b z ≡ fitListOf b z ps
     unfolding gatheredFit fitListOf
     gathers-fit =
-        ap (λ (r : Fitted). if not ((requirementsRangedOf q && zRangedOf z) && g .ranged) then refusedFit 13 else r) fits
-        ∙ ap (λ (t : Bool). if not ((requirementsRangedOf q && zRangedOf z) && t) then refusedFit 13 else fitOf q z ps) (G .ranged)
+        ap (behind (g .ranged)) fits
+        ∙ ap (λ (t : Bool). behind t (fitted ps)) (G .ranged)

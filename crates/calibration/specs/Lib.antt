@@ -5,6 +5,7 @@ pub mod Annual
 pub mod LentList
 pub mod PairLaws
 pub mod ConditionLaws
+pub mod StandardBound
 pub mod CodeLaws
 pub mod ListLaws
 pub mod FitLaws

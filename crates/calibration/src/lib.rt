@@ -8,7 +8,7 @@ ghost use lib.ListN.{take, length};
 ghost use Rattle.charts.specs.Tests.{if_then_else_};
 ghost use Rattle.calibration.specs.Conditions.{standardOf, timesOf};
 ghost use Rattle.calibration.specs.Pairs.{AllRanged, Between, ConditionsRanged, OxygenRanged, PairRanged, RequirementsRanged, ZRanged, betweenOf, conditionsRangedOf, pairRangedOf, requirementsRangedOf, zRangedOf};
-ghost use Rattle.calibration.specs.Calibration.{LineRanged, beyondOf, cOf, calibratedOf, countFits, deviationsOf, divisorOf, farOf, fitFrom, fitOf, flatOf, higherOf, interceptOf, kOf, lineFits, lineRangedOf, lowerOf, measuredOf, plusOf, qOf, refusedFit, residualsOf, riseOf, slopeOf, slopeRangedOf, someBeyond, spanOf, sumsOf, topOf, valueOf, variedOf, widenedOf};
+ghost use Rattle.calibration.specs.Calibration.{LineRanged, beyondOf, cOf, calibratedOf, countFits, deviationsOf, divisorOf, farOf, fitFrom, fitOf, flatOf, higherOf, interceptOf, kOf, lineFits, lineRangedOf, lowerOf, measuredOf, plusOf, qOf, refusedFit, residualsOf, riseOf, shareOf, slopeOf, slopeRangedOf, someBeyond, spanOf, sumsOf, topOf, valueOf, variedOf, widenedOf};
 ghost use Rattle.calibration.specs.Annual.{annualCountFits, annualKOf, annualVariedOf, functionOf, refusedTest, tOf, testOf};
 ghost use Rattle.calibration.specs.LentList.{fitListOf};
 ghost use Rattle.calibration.specs.LentListLaws.{gatherOf, gatheredFit, gatheredNone};
@@ -40,6 +40,12 @@ pub struct Requirements {
     pub limit: i32,
     pub uncertainty: i32,
     pub oxygen: i32,
+}
+
+// What a lent list of pairs comes with, beside Z: the edition to round by, and E, σ and the reference oxygen.
+pub struct Basis {
+    pub edition: u8,
+    pub requirements: Requirements,
 }
 
 // A calibration function: slope B and intercept A.
@@ -140,58 +146,58 @@ pub fn line_ranged(l: Line) -> bool
 // ---- standard conditions and calibrated values
 
 // One factor of formula 20, rounded: near(v·n/d).
-fn times(v: i64, n: i64, d: i64) -> i64
+fn times(edition: u8, v: i64, n: i64, d: i64) -> i64
     requires { ⌜ (natAbs v ≤ 2 ^ 40) × (natAbs n ≤ 2 ^ 20) × (pos 0 <ℤ d) × (natAbs d ≤ 2 ^ 20) ⌝ }
-    ensures { λ r. ⌜ r ≡ timesOf v n d ⌝ }
+    ensures { λ r. ⌜ r ≡ timesOf edition v n d ⌝ }
 {
-    charts::near(v * n, d)
+    charts::near(edition, v * n, d)
 }
 
 // The four factors in turn: the only step from analyser conditions to standard conditions.
-pub fn standard_conditions(reference: i32, k: Conditions, v: Actual) -> Standard
+pub fn standard_conditions(edition: u8, reference: i32, k: Conditions, v: Actual) -> Standard
     requires { ⌜ OxygenRanged reference × ConditionsRanged k × (natAbs (v .0) ≤ 8000000) ⌝ }
-    ensures { λ r. ⌜ r ≡ standardOf reference k v ⌝ }
+    ensures { λ r. ⌜ r ≡ standardOf edition reference k v ⌝ }
 {
-    let t = times(v.0 as i64, 27315 + k.temperature as i64, 27315);
-    let p = times(t, 10130, 10130 + k.pressure as i64);
-    let h = times(p, 10000, 10000 - k.water as i64);
-    let o = times(h, 2100 - reference as i64, 2100 - k.oxygen as i64);
+    let t = times(edition, v.0 as i64, 27315 + k.temperature as i64, 27315);
+    let p = times(edition, t, 10130, 10130 + k.pressure as i64);
+    let h = times(edition, p, 10000, 10000 - k.water as i64);
+    let o = times(edition, h, 2100 - reference as i64, 2100 - k.oxygen as i64);
     Standard(o as i32)
 }
 
-pub fn calibrated(l: Line, x: i32) -> Actual
+pub fn calibrated(edition: u8, l: Line, x: i32) -> Actual
     requires { ⌜ LineRanged l × Between (pos 0) (pos 400000) x ⌝ }
-    ensures { λ r. ⌜ r ≡ calibratedOf l x ⌝ }
+    ensures { λ r. ⌜ r ≡ calibratedOf edition l x ⌝ }
 {
-    let v = charts::near(l.intercept + (l.slope as i64) * (x as i64), 100000);
+    let v = charts::near(edition, l.intercept + (l.slope as i64) * (x as i64), 100000);
     Actual(v as i32)
 }
 
 // A signal's calibrated value in standard conditions.
-pub fn value(reference: i32, l: Line, k: Conditions, x: i32) -> Standard
+pub fn value(edition: u8, reference: i32, l: Line, k: Conditions, x: i32) -> Standard
     requires { ⌜ OxygenRanged reference × LineRanged l × ConditionsRanged k × Between (pos 0) (pos 400000) x ⌝ }
-    ensures { λ r. ⌜ r ≡ valueOf reference l k x ⌝ }
+    ensures { λ r. ⌜ r ≡ valueOf edition reference l k x ⌝ }
 {
-    standard_conditions(reference, k, calibrated(l, x))
+    standard_conditions(edition, reference, k, calibrated(edition, l, x))
 }
 
 // y' of a pair.
-fn measured(reference: i32, p: Pair) -> Standard
+fn measured(edition: u8, reference: i32, p: Pair) -> Standard
     requires { ⌜ OxygenRanged reference × PairRanged p ⌝ }
-    ensures { λ r. ⌜ r ≡ measuredOf reference p ⌝ }
+    ensures { λ r. ⌜ r ≡ measuredOf edition reference p ⌝ }
 {
     let k = p.conditions;
     let v = p.srm;
-    standard_conditions(reference, k, v)
+    standard_conditions(edition, reference, k, v)
 }
 
 // c of a pair.
-fn fitted_value(reference: i32, l: Line, p: Pair) -> Standard
+fn fitted_value(edition: u8, reference: i32, l: Line, p: Pair) -> Standard
     requires { ⌜ OxygenRanged reference × LineRanged l × PairRanged p ⌝ }
-    ensures { λ r. ⌜ r ≡ cOf reference l p ⌝ }
+    ensures { λ r. ⌜ r ≡ cOf edition reference l p ⌝ }
 {
     let k = p.conditions;
-    value(reference, l, k, p.signal)
+    value(edition, reference, l, k, p.signal)
 }
 
 // ---- sums over the pairs
@@ -261,11 +267,11 @@ fn widened(s: Span, v: Standard) -> Span
 }
 
 // Whether the y' differ by less than 15 % of the limit.
-fn is_flat(pairs: [Pair; 30], n: u32, q: Requirements) -> bool
+fn is_flat(edition: u8, pairs: [Pair; 30], n: u32, q: Requirements) -> bool
     requires { ⌜ (0 < n) × (n ≤ 30) × AllRanged (take n pairs) × RequirementsRanged q ⌝ }
-    ensures { λ r. ⌜ r ≡ flatOf q (take n pairs) ⌝ }
+    ensures { λ r. ⌜ r ≡ flatOf edition q (take n pairs) ⌝ }
 {
-    let first = measured(q.oxygen, pairs[0]);
+    let first = measured(edition, q.oxygen, pairs[0]);
     let mut s = Span {
         low: first,
         high: first,
@@ -273,7 +279,7 @@ fn is_flat(pairs: [Pair; 30], n: u32, q: Requirements) -> bool
     let mut i: u32 = 1;
     while i < n {
         let p = pairs[i as usize];
-        s = widened(s, measured(q.oxygen, p));
+        s = widened(s, measured(edition, q.oxygen, p));
         i += 1;
     }
     100 * (s.high.0 as i64 - s.low.0 as i64) < 15 * (q.limit as i64)
@@ -303,29 +309,29 @@ fn divisor(flat: bool, u: Sums, z: i32) -> i64
 }
 
 // B, or 0 where it is outside 1..1,000,000. The product is unsigned: it can pass 2^63.
-fn slope(rise: i64, divisor: i64) -> i32
+fn slope(edition: u8, rise: i64, divisor: i64) -> i32
     requires { ⌜ (natAbs rise ≤ 144000000000000) × (pos 0 <ℤ divisor) ⌝ }
-    ensures { λ r. ⌜ r ≡ slopeCode rise divisor ⌝ }
+    ensures { λ r. ⌜ r ≡ slopeCode edition rise divisor ⌝ }
 {
     if rise <= 0 {
         return 0;
     }
-    let b = charts::near_unsigned(100000 * (rise as u64), divisor as u64);
+    let b = charts::near_unsigned(edition, 100000 * (rise as u64), divisor as u64);
     if 1000000 < b {
         return 0;
     }
     b as i32
 }
 
-fn intercept(flat: bool, u: Sums, z: i32, b: i32) -> i64
+fn intercept(edition: u8, flat: bool, u: Sums, z: i32, b: i32) -> i64
     requires { ⌜ SumsRanged u × (0 < u .n) × ZRanged z × Between (pos 1) (pos 1000000) b ⌝ }
-    ensures { λ r. ⌜ r ≡ interceptOf flat u z b ⌝ }
+    ensures { λ r. ⌜ r ≡ interceptOf edition flat u z b ⌝ }
 {
     let m = b as i64;
     if flat {
         return -(m * (z as i64));
     }
-    charts::near(100000 * u.y - m * u.x, u.n as i64)
+    charts::near(edition, 100000 * u.y - m * u.x, u.n as i64)
 }
 
 // ---- residuals
@@ -337,14 +343,14 @@ fn far(v: Standard) -> bool
 }
 
 // Whether some y' or c is beyond ±10,000,000.
-fn beyond(pairs: [Pair; 30], n: u32, reference: i32, l: Line) -> bool
+fn beyond(edition: u8, pairs: [Pair; 30], n: u32, reference: i32, l: Line) -> bool
     requires { ⌜ (n ≤ 30) × AllRanged (take n pairs) × OxygenRanged reference × LineRanged l ⌝ }
-    ensures { λ r. ⌜ r ≡ someBeyond reference l (take n pairs) ⌝ }
+    ensures { λ r. ⌜ r ≡ someBeyond edition reference l (take n pairs) ⌝ }
 {
     let mut i: u32 = 0;
     while i < n {
         let p = pairs[i as usize];
-        if far(measured(reference, p)) | far(fitted_value(reference, l, p)) {
+        if far(measured(edition, reference, p)) | far(fitted_value(edition, reference, l, p)) {
             return true;
         }
         i += 1;
@@ -366,19 +372,23 @@ fn with_residual(r: Residuals, y: Standard, c: Standard) -> Residuals
     }
 }
 
-fn pair_residuals(pairs: [Pair; 30], n: u32, reference: i32, l: Line) -> Residuals
-    requires { ⌜ (0 < n) × (n ≤ 30) × AllRanged (take n pairs) × OxygenRanged reference × LineRanged l × (someBeyond reference l (take n pairs) ≡ false) ⌝ }
-    ensures { λ r. ⌜ r ≡ residualsOf reference l (take n pairs) ⌝ }
+fn pair_residuals(edition: u8, pairs: [Pair; 30], n: u32, reference: i32, l: Line) -> Residuals
+    requires { ⌜ (0 < n) × (n ≤ 30) × AllRanged (take n pairs) × OxygenRanged reference × LineRanged l × (someBeyond edition reference l (take n pairs) ≡ false) ⌝ }
+    ensures { λ r. ⌜ r ≡ residualsOf edition reference l (take n pairs) ⌝ }
 {
     let mut r = Residuals {
-        most: fitted_value(reference, l, pairs[0]),
+        most: fitted_value(edition, reference, l, pairs[0]),
         sum: 0,
         squares: 0,
     };
     let mut i: u32 = 0;
     while i < n {
         let p = pairs[i as usize];
-        r = with_residual(r, measured(reference, p), fitted_value(reference, l, p));
+        r = with_residual(
+            r,
+            measured(edition, reference, p),
+            fitted_value(edition, reference, l, p),
+        );
         i += 1;
     }
     r
@@ -392,12 +402,24 @@ fn dispersion(n: u32, r: Residuals) -> u64
     ((n as i64) * r.squares - r.sum * r.sum) as u64
 }
 
-// near(110·max c/100).
-fn top(most: Standard) -> Standard
-    requires { ⌜ farOf most ≡ false ⌝ }
-    ensures { λ r. ⌜ r ≡ topOf most ⌝ }
+// near(percent·v/100).
+fn share(edition: u8, percent: i64, v: i32) -> Standard
+    requires { ⌜ (natAbs percent ≤ 110) × (natAbs v ≤ 10000000) ⌝ }
+    ensures { λ r. ⌜ r ≡ shareOf edition percent v ⌝ }
 {
-    Standard(charts::near(110 * (most.0 as i64), 100) as i32)
+    Standard(charts::near(edition, percent * (v as i64), 100) as i32)
+}
+
+// 110 % of max c, and in edition 2 at least 20 % of the limit.
+fn top(edition: u8, limit: i32, most: Standard) -> Standard
+    requires { ⌜ (farOf most ≡ false) × Between (pos 100) (pos 400000) limit ⌝ }
+    ensures { λ r. ⌜ r ≡ topOf edition limit most ⌝ }
+{
+    let first = share(edition, 110, most.0);
+    if edition != 2 {
+        return first;
+    }
+    higher(first, share(edition, 20, limit))
 }
 
 // ---- verdicts
@@ -518,14 +540,14 @@ fn refused_fit(refusal: u32) -> Fitted
 }
 
 // A function stands: 24, or the figures and the verdict.
-fn line_fits(pairs: [Pair; 30], n: u32, q: Requirements, l: Line) -> Fitted
+fn line_fits(edition: u8, pairs: [Pair; 30], n: u32, q: Requirements, l: Line) -> Fitted
     requires { ⌜ (0 < n) × (n ≤ 30) × AllRanged (take n pairs) × RequirementsRanged q × LineRanged l ⌝ }
-    ensures { λ r. ⌜ r ≡ lineFits q (take n pairs) l ⌝ }
+    ensures { λ r. ⌜ r ≡ lineFits edition q (take n pairs) l ⌝ }
 {
-    if beyond(pairs, n, q.oxygen, l) {
+    if beyond(edition, pairs, n, q.oxygen, l) {
         return refused_fit(24);
     }
-    let r = pair_residuals(pairs, n, q.oxygen, l);
+    let r = pair_residuals(edition, pairs, n, q.oxygen, l);
     let most = r.most;
     Fitted {
         refusal: 0,
@@ -537,27 +559,28 @@ fn line_fits(pairs: [Pair; 30], n: u32, q: Requirements, l: Line) -> Fitted
             dispersion(n, r),
         ),
         line: l,
-        top: top(most),
+        top: top(edition, q.limit, most),
         count: n,
     }
 }
 
 // From the sums on: 22, 23, then the function.
-fn fit_from(pairs: [Pair; 30], n: u32, q: Requirements, z: i32, u: Sums) -> Fitted
+fn fit_from(edition: u8, pairs: [Pair; 30], n: u32, q: Requirements, z: i32, u: Sums) -> Fitted
     requires { ⌜ (0 < n) × (n ≤ 30) × AllRanged (take n pairs) × RequirementsRanged q × ZRanged z × SumsRanged u × (0 < u .n) ⌝ }
-    ensures { λ r. ⌜ r ≡ fitFrom q z (take n pairs) u ⌝ }
+    ensures { λ r. ⌜ r ≡ fitFrom edition q z (take n pairs) u ⌝ }
 {
-    let flat = is_flat(pairs, n, q);
+    let flat = is_flat(edition, pairs, n, q);
     let d = divisor(flat, u, z);
     if d <= 0 {
         return refused_fit(22);
     }
-    let b = slope(rise(flat, u), d);
+    let b = slope(edition, rise(flat, u), d);
     if b == 0 {
         return refused_fit(23);
     }
-    let a = intercept(flat, u, z, b);
+    let a = intercept(edition, flat, u, z, b);
     line_fits(
+        edition,
         pairs,
         n,
         q,
@@ -569,20 +592,20 @@ fn fit_from(pairs: [Pair; 30], n: u32, q: Requirements, z: i32, u: Sums) -> Fitt
 }
 
 // The calibration's outcome, from the first n of thirty pairs.
-pub fn fit(pairs: [Pair; 30], n: u32, q: Requirements, z: i32) -> Fitted
+pub fn fit(edition: u8, pairs: [Pair; 30], n: u32, q: Requirements, z: i32) -> Fitted
     requires { ⌜ (n ≤ 30) × AllRanged (take n pairs) × RequirementsRanged q × ZRanged z ⌝ }
-    ensures { λ r. ⌜ r ≡ fitOf q z (take n pairs) ⌝ }
+    ensures { λ r. ⌜ r ≡ fitOf edition q z (take n pairs) ⌝ }
 {
     if !count_fits(n) {
         return refused_fit(20);
     }
-    fit_from(pairs, n, q, z, pair_sums(pairs, n))
+    fit_from(edition, pairs, n, q, z, pair_sums(pairs, n))
 }
 
 // The annual test's outcome, from the first n of thirty pairs and the function in force.
-pub fn annual_test(pairs: [Pair; 30], n: u32, q: Requirements, l: Line) -> Tested
+pub fn annual_test(edition: u8, pairs: [Pair; 30], n: u32, q: Requirements, l: Line) -> Tested
     requires { ⌜ (n ≤ 30) × AllRanged (take n pairs) × RequirementsRanged q × LineRanged l ⌝ }
-    ensures { λ r. ⌜ r ≡ testOf q l (take n pairs) ⌝ }
+    ensures { λ r. ⌜ r ≡ testOf edition q l (take n pairs) ⌝ }
 {
     if !annual_count_fits(n) {
         return Tested {
@@ -591,14 +614,14 @@ pub fn annual_test(pairs: [Pair; 30], n: u32, q: Requirements, l: Line) -> Teste
             function: false,
         };
     }
-    if beyond(pairs, n, q.oxygen, l) {
+    if beyond(edition, pairs, n, q.oxygen, l) {
         return Tested {
             refusal: 24,
             variability: false,
             function: false,
         };
     }
-    let r = pair_residuals(pairs, n, q.oxygen, l);
+    let r = pair_residuals(edition, pairs, n, q.oxygen, l);
     let dispersed = dispersion(n, r);
     let sigma = q.uncertainty as u32;
     Tested {
@@ -656,11 +679,16 @@ fn gather(g: Gathered, p: Pair) -> Gathered
     h
 }
 
-// 13, then 20 where there are more than thirty, then the fit.
-fn fit_gathered(g: Gathered, q: Requirements, z: i32) -> Fitted
+// 3, then 13, then 20 where there are more than thirty, then the fit.
+fn fit_gathered(g: Gathered, b: Basis, z: i32) -> Fitted
     requires { ⌜ (g .ranged ≡ true → AllRanged (take (g .count) (g .pairs))) ⌝ }
-    ensures { λ r. ⌜ r ≡ gatheredFit g q z ⌝ }
+    ensures { λ r. ⌜ r ≡ gatheredFit g b z ⌝ }
 {
+    let edition = b.edition;
+    if !charts::edition_known(edition) {
+        return refused_fit(3);
+    }
+    let q = b.requirements;
     let n = g.count;
     let ranged = (requirements_ranged(q) & z_ranged(z)) & g.ranged;
     if !ranged {
@@ -670,12 +698,12 @@ fn fit_gathered(g: Gathered, q: Requirements, z: i32) -> Fitted
         return refused_fit(20);
     }
     let pairs = g.pairs;
-    fit(pairs, n, q, z)
+    fit(edition, pairs, n, q, z)
 }
 
 // The calibration's outcome, from a lent list of pairs of any length.
-pub fn fit_list(pairs: &[Pair], q: Requirements, z: i32) -> Fitted
-    ensures { λ r. ⌜ r ≡ fitListOf q z (now (pairs .entry)) ⌝ }
+pub fn fit_list(pairs: &[Pair], b: Basis, z: i32) -> Fitted
+    ensures { λ r. ⌜ r ≡ fitListOf b z (now (pairs .entry)) ⌝ }
 {
     let mut g = gather_none();
     let mut i: usize = 0;
@@ -683,5 +711,5 @@ pub fn fit_list(pairs: &[Pair], q: Requirements, z: i32) -> Fitted
         g = gather(g, pairs[i]);
         i = i + 1;
     }
-    fit_gathered(g, q, z)
+    fit_gathered(g, b, z)
 }

@@ -1,11 +1,11 @@
-// Charts: series of differences, a line after each reading. A line has the name of the series, s and the last difference, the
+// Charts in an edition (e): series of differences, a line after each reading. A line has the name of the series, s and the last difference, the
 // sums P, M and V with their counts, the adjustments to be taken off and put on, and the rising, falling and precision alarm.
 use crate::print;
 use charts::Chart;
 use charts::Sum;
 
 // A reading, where the chart and the difference are in the range that `apply` asks for; else the chart as it is.
-fn applied(c: Chart, s: u16, d: i32) -> Chart {
+fn applied(e: u8, c: Chart, s: u16, d: i32) -> Chart {
     if !c.sound() {
         return c;
     }
@@ -15,7 +15,7 @@ fn applied(c: Chart, s: u16, d: i32) -> Chart {
     if !charts::ranged(d) {
         return c;
     }
-    c.apply(s, d)
+    c.apply(e, s, d)
 }
 
 fn show_sum(name: &[u8], u: Sum) {
@@ -42,11 +42,11 @@ pub fn show(name: &[u8], s: u16, c: Chart) {
 }
 
 // Applies the differences one after the other, with a line for each.
-fn continued(name: &[u8], begin: Chart, s: u16, ds: &[i32]) -> Chart {
+fn continued(e: u8, name: &[u8], begin: Chart, s: u16, ds: &[i32]) -> Chart {
     let mut c = begin;
     let mut i = 0;
     while i < ds.len() {
-        c = applied(c, s, ds[i]);
+        c = applied(e, c, s, ds[i]);
         show(name, s, c);
         i += 1;
     }
@@ -54,21 +54,21 @@ fn continued(name: &[u8], begin: Chart, s: u16, ds: &[i32]) -> Chart {
 }
 
 // The same from a reset.
-fn series(name: &[u8], s: u16, ds: &[i32]) {
-    continued(name, fresh(), s, ds);
+fn series(e: u8, name: &[u8], s: u16, ds: &[i32]) {
+    continued(e, name, fresh(), s, ds);
 }
 
 // Fills a chart with 50,000 pairs of readings at s 1, and tries one more.
-fn full(name: &[u8], first: i32, second: i32) {
+fn full(e: u8, name: &[u8], first: i32, second: i32) {
     let mut c = fresh();
     let mut i: u32 = 0;
     while i < 50000 {
-        c = applied(c, 1, first);
-        c = applied(c, 1, second);
+        c = applied(e, c, 1, first);
+        c = applied(e, c, 1, second);
         i += 1;
     }
     show(name, 1, c);
-    show(name, 1, applied(c, 1, first));
+    show(name, 1, applied(e, c, 1, first));
 }
 
 // Whether a chart is sound with these figures, the sum being P.
@@ -92,49 +92,50 @@ fn fresh() -> Chart {
 }
 
 // The paper's cases 1 to 6, and its drift cases with the sign turned.
-fn paper() {
-    series(b"case-1", 1000, &[3351]);
-    series(b"case-2", 1000, &[3352]);
-    series(b"case-3-4", 44, &[60, 60, 60, 60]);
-    series(b"case-5", 2, &[8]);
-    series(b"case-6", 2, &[9]);
-    series(b"turned-1", 1000, &[-3351]);
-    series(b"turned-2", 1000, &[-3352]);
-    series(b"turned-3-4", 44, &[-60, -60, -60, -60]);
+fn paper(e: u8) {
+    series(e, b"case-1", 1000, &[3351]);
+    series(e, b"case-2", 1000, &[3352]);
+    series(e, b"case-3-4", 44, &[60, 60, 60, 60]);
+    series(e, b"case-5", 2, &[8]);
+    series(e, b"case-6", 2, &[9]);
+    series(e, b"turned-1", 1000, &[-3351]);
+    series(e, b"turned-2", 1000, &[-3352]);
+    series(e, b"turned-3-4", 44, &[-60, -60, -60, -60]);
 }
 
 // Both signs in one series. A sum of exactly 0 has a count of 0: P at once, and after a reading above; M; V after a step of 26
 // and one of 8. V at its limit, 138 s², and the next sum that two steps can make over it.
-fn sums() {
-    series(b"signs", 44, &[100, -100, 150, -120, 30, -30, 0]);
-    series(b"zero-P", 1000, &[501, 1002, 0]);
-    series(b"zero-M", 1000, &[-501, -1002, 0]);
-    series(b"zero-V", 10, &[26, 34]);
-    series(b"limit-V", 5, &[23, 24]);
-    series(b"over-V", 5, &[23, 25]);
+fn sums(e: u8) {
+    series(e, b"signs", 44, &[100, -100, 150, -120, 30, -30, 0]);
+    series(e, b"zero-P", 1000, &[501, 1002, 0]);
+    series(e, b"zero-M", 1000, &[-501, -1002, 0]);
+    series(e, b"zero-V", 10, &[26, 34]);
+    series(e, b"limit-V", 5, &[23, 24]);
+    series(e, b"over-V", 5, &[23, 25]);
 }
 
 // Both drift alarms at once, with an adjustment for each; the next reading ends the rising one, and its adjustment is 0 again.
 // Then adjustments that lie half way between two whole numbers: 3.5 and 10.5.
-fn adjustments() {
-    series(b"both", 10, &[80, -40, 0]);
-    series(b"half", 1, &[5]);
-    series(b"half", 1, &[-5]);
-    series(b"half", 1, &[15]);
+fn adjustments(e: u8) {
+    series(e, b"both", 10, &[80, -40, 0]);
+    series(e, b"half", 1, &[5]);
+    series(e, b"half", 1, &[-5]);
+    series(e, b"half", 1, &[15]);
+    series(e, b"half", 1, &[-15]);
 }
 
 // The first step after a reset is from 0: the last line has the sums of case 5.
-fn reset_in_the_middle() {
-    let c = continued(b"before", fresh(), 2, &[100, 108]);
+fn reset_in_the_middle(e: u8) {
+    let c = continued(e, b"before", fresh(), 2, &[100, 108]);
     let r = c.reset();
     show(b"reset", 2, r);
-    continued(b"after", r, 2, &[8]);
+    continued(e, b"after", r, 2, &[8]);
 }
 
 // A chart that is not started shows no alarm, whatever its sums.
-fn not_started() {
+fn not_started(e: u8) {
     show(b"unstarted", 44, charts::unstarted());
-    let c = continued(b"started", fresh(), 44, &[200]);
+    let c = continued(e, b"started", fresh(), 44, &[200]);
     show(
         b"stopped",
         44,
@@ -146,13 +147,13 @@ fn not_started() {
 }
 
 // The ends of the range of a difference, one past each, which leaves the chart as it is, and a chart's every reading.
-fn extremes() {
-    series(b"ends", 1, &[400000, -800000, 400000]);
-    series(b"ends", 10000, &[400000, -800000, 400000]);
-    series(b"past", 1, &[400001, -800001]);
-    full(b"full-P", 400000, 400000);
-    full(b"full-M", -800000, -800000);
-    full(b"full-V", -800000, 400000);
+fn extremes(e: u8) {
+    series(e, b"ends", 1, &[400000, -800000, 400000]);
+    series(e, b"ends", 10000, &[400000, -800000, 400000]);
+    series(e, b"past", 1, &[400001, -800001]);
+    full(e, b"full-P", 400000, 400000);
+    full(e, b"full-M", -800000, -800000);
+    full(e, b"full-V", -800000, 400000);
 }
 
 // The test of a chart's range: its ends hold, and one more of anything does not.
@@ -167,12 +168,12 @@ fn soundness() {
     show_sound(b"last-1", 1, -800001, 0, 0);
 }
 
-pub fn run() {
-    paper();
-    sums();
-    adjustments();
-    reset_in_the_middle();
-    not_started();
-    extremes();
+pub fn run(e: u8) {
+    paper(e);
+    sums(e);
+    adjustments(e);
+    reset_in_the_middle(e);
+    not_started(e);
+    extremes(e);
     soundness();
 }

@@ -1,4 +1,4 @@
-// near(n/d): halves, both signs, exact quotients, and the ends of its range.
+// near(n/d) in an edition (e): halves, both signs, exact quotients, and the ends of its range.
 use crate::print;
 
 // A rounded quotient, or that the arguments are outside the range that the rounding asks for.
@@ -13,7 +13,7 @@ enum UnsignedQuotient {
 }
 
 // The range: n within 2^62 of 0, d from 1 to 2^61.
-fn try_near(n: i64, d: i64) -> Quotient {
+fn try_near(e: u8, n: i64, d: i64) -> Quotient {
     if n < -4611686018427387904 {
         return Quotient::Outside;
     }
@@ -26,88 +26,94 @@ fn try_near(n: i64, d: i64) -> Quotient {
     if 2305843009213693952 < d {
         return Quotient::Outside;
     }
-    Quotient::Whole(charts::near(n, d))
+    Quotient::Whole(charts::near(e, n, d))
 }
 
-fn try_near_unsigned(n: u64, d: u64) -> UnsignedQuotient {
+fn try_near_unsigned(e: u8, n: u64, d: u64) -> UnsignedQuotient {
     if d == 0 {
         return UnsignedQuotient::Outside;
     }
-    UnsignedQuotient::Whole(charts::near_unsigned(n, d))
+    UnsignedQuotient::Whole(charts::near_unsigned(e, n, d))
 }
 
-fn near(n: i64, d: i64) {
+fn near(e: u8, n: i64, d: i64) {
     print::text(b"near ");
     print::signed(n);
     print::text(b"/");
     print::signed(d);
     print::text(b" ");
-    match try_near(n, d) {
+    match try_near(e, n, d) {
         Quotient::Whole(q) => print::signed(q),
         Quotient::Outside => print::text(b"outside"),
     }
     print::end_line();
 }
 
-fn near_unsigned(n: u64, d: u64) {
+fn near_unsigned(e: u8, n: u64, d: u64) {
     print::text(b"unsigned ");
     print::number(n);
     print::text(b"/");
     print::number(d);
     print::text(b" ");
-    match try_near_unsigned(n, d) {
+    match try_near_unsigned(e, n, d) {
         UnsignedQuotient::Whole(q) => print::number(q),
         UnsignedQuotient::Outside => print::text(b"outside"),
     }
     print::end_line();
 }
 
-// Halves, the paper's three first; thirds; whole quotients.
-fn small() {
-    near(1, 2);
-    near(-1, 2);
-    near(-3, 2);
-    near(3, 2);
-    near(7, 14);
-    near(-7, 14);
-    near(4, 3);
-    near(5, 3);
-    near(-4, 3);
-    near(-5, 3);
-    near(0, 7);
-    near(12, 4);
-    near(-12, 4);
-    near(5, 1);
-    near(-5, 1);
+// Halves, the paper's three first; thirds; whole quotients. Then halves next to an even number and to an odd one.
+fn small(e: u8) {
+    near(e, 1, 2);
+    near(e, -1, 2);
+    near(e, -3, 2);
+    near(e, 3, 2);
+    near(e, 7, 14);
+    near(e, -7, 14);
+    near(e, 4, 3);
+    near(e, 5, 3);
+    near(e, -4, 3);
+    near(e, -5, 3);
+    near(e, 0, 7);
+    near(e, 12, 4);
+    near(e, -12, 4);
+    near(e, 5, 1);
+    near(e, -5, 1);
+    near(e, 5, 2);
+    near(e, -5, 2);
+    near(e, -7, 2);
 }
 
 // Up to 2^62 over 2^61. (2^62 - 1)/2 is a half.
-fn large() {
-    near(4611686018427387904, 1);
-    near(-4611686018427387904, 1);
-    near(4611686018427387903, 2);
-    near(-4611686018427387903, 2);
-    near(4611686018427387904, 3);
-    near(-4611686018427387904, 2305843009213693952);
-    near(1152921504606846976, 2305843009213693952);
-    near(-1152921504606846976, 2305843009213693952);
-    near(1152921504606846975, 2305843009213693952);
+fn large(e: u8) {
+    near(e, 4611686018427387904, 1);
+    near(e, -4611686018427387904, 1);
+    near(e, 4611686018427387903, 2);
+    near(e, -4611686018427387903, 2);
+    near(e, 4611686018427387904, 3);
+    near(e, -4611686018427387904, 2305843009213693952);
+    near(e, 1152921504606846976, 2305843009213693952);
+    near(e, -1152921504606846976, 2305843009213693952);
+    near(e, 1152921504606846975, 2305843009213693952);
+    near(e, 3458764513820540928, 2305843009213693952);
+    near(e, -3458764513820540928, 2305843009213693952);
 }
 
 // Numerators and divisors up to 2^64 - 1.
-fn large_unsigned() {
-    near_unsigned(1, 2);
-    near_unsigned(18446744073709551615, 1);
-    near_unsigned(18446744073709551615, 2);
-    near_unsigned(18446744073709551614, 4);
-    near_unsigned(18446744073709551615, 18446744073709551615);
-    near_unsigned(9223372036854775807, 18446744073709551615);
-    near_unsigned(9223372036854775808, 18446744073709551615);
-    near_unsigned(0, 5);
+fn large_unsigned(e: u8) {
+    near_unsigned(e, 1, 2);
+    near_unsigned(e, 18446744073709551615, 1);
+    near_unsigned(e, 18446744073709551615, 2);
+    near_unsigned(e, 18446744073709551614, 4);
+    near_unsigned(e, 18446744073709551615, 18446744073709551615);
+    near_unsigned(e, 9223372036854775807, 18446744073709551615);
+    near_unsigned(e, 9223372036854775808, 18446744073709551615);
+    near_unsigned(e, 0, 5);
+    near_unsigned(e, 18446744073709551613, 2);
 }
 
-pub fn run() {
-    small();
-    large();
-    large_unsigned();
+pub fn run(e: u8) {
+    small(e);
+    large(e);
+    large_unsigned(e);
 }

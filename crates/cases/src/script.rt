@@ -32,6 +32,8 @@ enum Command {
     Poke,
     Seal,
     Expect,
+    Edition,
+    Open,
     Bytes,
     Case,
     Try,
@@ -247,6 +249,18 @@ fn expect(desk: Desk, n: Numbers) -> Desk {
     script_file::expect(desk, number as u32)
 }
 
+// A number that a byte can have, as an edition: told, or that of the block begun last.
+fn edition(desk: Desk, c: Command, n: Numbers) -> Desk {
+    let a = script_words::value(n, 0);
+    if 255 < a {
+        return unknown(desk);
+    }
+    match c {
+        Command::Edition => script_file::tell_edition(desk, a as u8),
+        _ => script_file::open(desk, a as u8),
+    }
+}
+
 // ---- the lines
 
 // The commands of the file.
@@ -274,6 +288,12 @@ fn filing(word: &[u8]) -> Command {
     }
     if script_words::same(word, b"expect") {
         return Command::Expect;
+    }
+    if script_words::same(word, b"edition") {
+        return Command::Edition;
+    }
+    if script_words::same(word, b"open") {
+        return Command::Open;
     }
     if script_words::same(word, b"bytes") {
         return Command::Bytes;
@@ -356,6 +376,8 @@ fn takes(c: Command, count: usize) -> bool {
         Command::Poke => count == 2,
         Command::Seal => count == 1,
         Command::Expect => count == 1,
+        Command::Edition => count == 1,
+        Command::Open => count == 1,
         Command::Bytes => count == 2,
         Command::Nothing => false,
         Command::Case => false,
@@ -390,6 +412,8 @@ fn filed(desk: Desk, c: Command, n: Numbers) -> Desk {
         Command::Poke => script_file::poke(desk, a, b),
         Command::Seal => script_file::seal(desk, a),
         Command::Expect => expect(desk, n),
+        Command::Edition => edition(desk, c, n),
+        Command::Open => edition(desk, c, n),
         Command::Bytes => script_file::show_bytes(desk, a, b),
         _ => written(desk, c),
     }
@@ -450,6 +474,7 @@ fn lines(s: &[u8]) {
         run: [0; 2048],
         length: 0,
         target: [165; 600],
+        edition: 1,
     };
     let mut at = 0;
     while at < s.len() {

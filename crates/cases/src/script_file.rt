@@ -6,8 +6,8 @@ use file::Replayed;
 use libc::STDOUT_FILENO;
 use records::state::State;
 
-// What a script works on: a state, one that was kept, the record that is prepared, the listed records, the run of blocks, and what the last
-// call left in its target.
+// What a script works on: a state, one that was kept, the record that is prepared, the listed records, the run of blocks, what the last call
+// left in its target, and the edition that is told.
 pub struct Desk {
     pub state: State,
     pub kept: State,
@@ -17,6 +17,7 @@ pub struct Desk {
     pub run: [u8; 2048],
     pub length: usize,
     pub target: [u8; 600],
+    pub edition: u8,
 }
 
 pub fn clear(desk: Desk) -> Desk {
@@ -104,11 +105,11 @@ struct Answer {
 }
 
 // A block of the first n listed bytes, in a target of `size` bytes.
-fn appended(st: State, list: [u8; 520], n: usize, size: usize) -> Answer
+fn appended(st: State, edition: u8, list: [u8; 520], n: usize, size: usize) -> Answer
     requires { ⌜ (n ≤ 520) × (size ≤ 600) ⌝ }
 {
     let mut target = [165u8; 600];
-    let r = file::append(st, &list[..n], &mut target[..size]);
+    let r = file::append(st, edition, &list[..n], &mut target[..size]);
     let after = r.state;
     Answer {
         state: after,
@@ -132,7 +133,7 @@ pub fn form(desk: Desk, size: u64, less: u64) -> Desk {
     }
     let st = desk.state;
     let list = desk.list;
-    let a = appended(st, list, (n - less) as usize, size as usize);
+    let a = appended(st, desk.edition, list, (n - less) as usize, size as usize);
     let target = a.target;
     tell(a.refusal, a.index, target);
     let after = a.state;
@@ -192,11 +193,19 @@ pub struct Closing {
 }
 
 // A closing after the first n listed bytes, in a target of `size` bytes.
-fn made(st: State, list: [u8; 520], n: usize, k: Closing, size: usize) -> Answer
+fn made(st: State, edition: u8, list: [u8; 520], n: usize, k: Closing, size: usize) -> Answer
     requires { ⌜ (n ≤ 520) × (size ≤ 600) ⌝ }
 {
     let mut target = [165u8; 600];
-    let r = file::make_closing(st, &list[..n], k.kind, k.minute, k.z, &mut target[..size]);
+    let r = file::make_closing(
+        st,
+        edition,
+        &list[..n],
+        k.kind,
+        k.minute,
+        k.z,
+        &mut target[..size],
+    );
     Answer {
         state: st,
         refusal: r.refusal,
@@ -219,7 +228,14 @@ pub fn make(desk: Desk, k: Closing, size: u64, less: u64) -> Desk {
     }
     let st = desk.state;
     let list = desk.list;
-    let a = made(st, list, (n - less) as usize, k, size as usize);
+    let a = made(
+        st,
+        desk.edition,
+        list,
+        (n - less) as usize,
+        k,
+        size as usize,
+    );
     let target = a.target;
     tell(a.refusal, a.index, target);
     let next = Desk { target, ..desk };
@@ -282,6 +298,21 @@ pub fn show_check(text: &[u8]) {
     print::text(b": check ");
     io::print_hex(STDOUT_FILENO, file::check(text) as u64, 4);
     print::end_line();
+}
+
+// The edition that forming and making are told from here on.
+pub fn tell_edition(desk: Desk, n: u8) -> Desk {
+    Desk { edition: n, ..desk }
+}
+
+// A block of edition n begins, of which the records that follow are.
+pub fn open(desk: Desk, n: u8) -> Desk {
+    let st = desk.state;
+    let after = State { edition: n, ..st };
+    Desk {
+        state: after,
+        ..desk
+    }
 }
 
 // The state expects block n.

@@ -1,10 +1,10 @@
--- Paper 01, 'Cases': the starred cases 1 to 6, as facts of the chart's definitions.
+-- Paper 01, 'Cases': the starred cases 1 to 6, as facts of the chart's definitions in edition 1.
 use mathlib.Core.Path.{_≡_, refl}
 use mathlib.Core.Bool.{true, false}
-use mathlib.Core.List.{List, [], _∷_}
+use mathlib.Core.List.{List, [], _∷_, map}
 use Prim.Native.Nat.{ℕ}
 use lib.IntN.{ℤ, pos}
-use Rattle.charts.specs.Rounding.{nearOf}
+use Rattle.charts.specs.Rounding.{odd, roundsUp, nearOf}
 use Rattle.charts.specs.Sums.{empty, added}
 use Rattle.charts.specs.Charts.{alarmsOf, adjustmentOf, blank, resetOf, appliedOf}
 use Rattle.charts.specs.ChartLaws.{afterReadings}
@@ -13,7 +13,7 @@ use Rattle.charts.specs.declared.Alarms.{Alarms}
 
 -- the chart after a reset and readings with the differences ds, newest first
 abbrev pub chartOf : ℕ → List ℤ → Chart
-chartOf s ds = afterReadings s (resetOf blank) ds
+chartOf s ds = afterReadings s (resetOf blank) (map (λ (d : ℤ). record { edition = 1; difference = d }) ds)
 
 abbrev pub alarmsAfter : ℕ → List ℤ → Alarms
 alarmsAfter s ds = alarmsOf (chartOf s ds) s
@@ -49,7 +49,7 @@ pub record ChartCases : Type 0 where
   pub precision-alarm : alarmsAfter 2 (pos 9 ∷ []) .precision ≡ true
 
 pub chart-cases : ChartCases
-unfolding afterReadings blank resetOf appliedOf alarmsOf adjustmentOf empty added nearOf
+unfolding afterReadings blank resetOf appliedOf alarmsOf adjustmentOf empty added nearOf roundsUp odd
 chart-cases = record {
   at-limit-sum = refl;
   at-limit-alarms = refl;

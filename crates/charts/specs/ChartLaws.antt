@@ -17,10 +17,19 @@ use Rattle.charts.specs.declared.Sum.{Sum}
 use Rattle.charts.specs.declared.Chart.{Chart}
 use Rattle.charts.specs.declared.Alarms.{Alarms}
 
--- the chart after readings with the differences ds, newest first
-unfoldable pub afterReadings : ℕ → Chart → List ℤ → Chart
+-- a reading as a chart takes it: its difference, and the edition of its block, which rounds the adjustments
+pub record Reading : Type 0 where
+  pub edition : ℕ
+  pub difference : ℤ
+
+-- all that the alarms look at
+abbrev pub differences : List Reading → List ℤ
+differences rs = map (λ (r : Reading). r .difference) rs
+
+-- the chart after readings, newest first
+unfoldable pub afterReadings : ℕ → Chart → List Reading → Chart
 afterReadings s c [] = c
-afterReadings s c (d ∷ ds) = appliedOf (afterReadings s c ds) s d
+afterReadings s c (r ∷ rs) = appliedOf (afterReadings s c rs) (r .edition) s (r .difference)
 
 abbrev pub sumOf : Alarm → Chart → Sum
 sumOf rising c = c .rising
@@ -55,19 +64,19 @@ turned s d =
     ud-eq (omega (arith, prod (pos 1000) d, prod (pos 1000) (negℤ d), up-neg d, dn-neg d, up-neg (pos 1000 *ℤ d), dn-neg (pos 1000 *ℤ d))) in
     ap (λ (z : ℤ). z -ℤ pos (501 * s)) e
 
-pub applied-charted : (s : ℕ) (ds : List ℤ) (c : Chart) (d : ℤ) → Charted s ds c → Charted s (d ∷ ds) (appliedOf c s d)
+pub applied-charted : (s e : ℕ) (ds : List ℤ) (c : Chart) (d : ℤ) → Charted s ds c → Charted s (d ∷ ds) (appliedOf c e s d)
 unfolding appliedOf summed
-applied-charted s ds c d C = record { started = C .started; readings = rw (C .readings) (add-one (length ds)); last = refl; sums = more }
+applied-charted s e ds c d C = record { started = C .started; readings = rw (C .readings) (add-one (length ds)); last = refl; sums = more }
   where
-    more : (a : Alarm) → sumOf a (appliedOf c s d) ≡ summed (terms a s (d ∷ ds))
+    more : (a : Alarm) → sumOf a (appliedOf c e s d) ≡ summed (terms a s (d ∷ ds))
     more rising = ap (λ (u : Sum). added u (risingTerm s d)) (C .sums rising)
     more falling = rw (C .sums falling, turned s d)
     more precision = rw (C .last, C .sums precision)
 
-pub charted : (s : ℕ) (c : Chart) (ds : List ℤ) → Charted s ds (afterReadings s (resetOf c) ds)
+pub charted : (s : ℕ) (c : Chart) (rs : List Reading) → Charted s (differences rs) (afterReadings s (resetOf c) rs)
 unfolding afterReadings
 charted s c [] = reset-charted s c
-charted s c (d ∷ ds) = applied-charted s ds (afterReadings s (resetOf c) ds) d (charted s c ds)
+charted s c (r ∷ rs) = applied-charted s (r .edition) (differences rs) (afterReadings s (resetOf c) rs) (r .difference) (charted s c rs)
 
 -- each sum and its count, where above 0, name a run, and no run sums higher
 pub chart-shows : (a : Alarm) (s : ℕ) (ds : List ℤ) (c : Chart) → Charted s ds c → Shows (sumOf a c) (terms a s ds)
@@ -89,8 +98,8 @@ unfolding Stands
 alarm-answers a s ds c C = rw (shown a s c (C .started)) (over-answers (limitOf a s) (sumOf a c) (terms a s ds) (chart-shows a s ds c C))
 
 -- for a chart that was reset, and then given readings
-pub alarms-after : (a : Alarm) (s : ℕ) (c : Chart) (ds : List ℤ) → Answers (alarmOf a (alarmsOf (afterReadings s (resetOf c) ds) s)) (Stands a s ds)
-alarms-after a s c ds = alarm-answers a s ds (afterReadings s (resetOf c) ds) (charted s c ds)
+pub alarms-after : (a : Alarm) (s : ℕ) (c : Chart) (rs : List Reading) → Answers (alarmOf a (alarmsOf (afterReadings s (resetOf c) rs) s)) (Stands a s (differences rs))
+alarms-after a s c rs = alarm-answers a s (differences rs) (afterReadings s (resetOf c) rs) (charted s c rs)
 
 -- a chart that was never reset has no readings, so no run and no alarm
 pub blank-answers : (a : Alarm) (s : ℕ) → Answers (alarmOf a (alarmsOf blank s)) (Stands a s [])

@@ -1,4 +1,5 @@
--- Paper 01, 'Charts (7.2-7.6)': a chart of three sums, of differences in hundredths of mg/m³. s is what the setting has for the chart.
+-- Paper 01, 'Charts (7.2-7.6)', and paper 02, C-12: a chart of three sums, of differences in hundredths of mg/m³. s is what the setting has for
+-- the chart; only the adjustments are rounded, by the edition of the reading's block.
 use mathlib.Core.Bool.{Bool, true, false, _&&_}
 use Prim.Native.Nat.{ℕ, _+_, _*_}
 use lib.Dec.{ltb}
@@ -46,9 +47,9 @@ alarmsOf c s = record {
 
 -- By how much to adjust at a drift alarm, from the sum and its count n as the reading leaves them; 0 where they show no alarm.
 -- (A sum over the limit has a count above 0, and the quotient is not negative, so that its magnitude is itself.)
-unfoldable pub adjustmentOf : ℕ → Sum → ℕ
-adjustmentOf s u =
-    if over (driftLimit s) u then natAbs (nearOf (pos (7 * (501 * s * u .count + u .value))) (pos (10000 * u .count)))
+unfoldable pub adjustmentOf : ℕ → ℕ → Sum → ℕ
+adjustmentOf edition s u =
+    if over (driftLimit s) u then natAbs (nearOf edition (pos (7 * (501 * s * u .count + u .value))) (pos (10000 * u .count)))
     else 0
 
 -- ---- the chart
@@ -62,8 +63,8 @@ unfoldable pub resetOf : Chart → Chart
 resetOf c = record { started = true; readings = 0; last = pos 0; rising = empty; falling = empty; precision = empty; downward = 0; upward = 0 }
 
 -- A reading with difference d. `downward` is to be taken off (P), `upward` to be added (M).
-unfoldable pub appliedOf : Chart → ℕ → ℤ → Chart
-appliedOf c s d =
+unfoldable pub appliedOf : Chart → ℕ → ℕ → ℤ → Chart
+appliedOf c edition s d =
     let P : Sum = added (c .rising) (risingTerm s d) in
     let M : Sum = added (c .falling) (fallingTerm s d) in
     let W : Sum = added (c .precision) (precisionTerm s (d -ℤ c .last)) in
@@ -74,6 +75,6 @@ appliedOf c s d =
       rising = P;
       falling = M;
       precision = W;
-      downward = adjustmentOf s P;
-      upward = adjustmentOf s M;
+      downward = adjustmentOf edition s P;
+      upward = adjustmentOf edition s M;
     }

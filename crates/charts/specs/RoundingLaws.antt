@@ -1,12 +1,16 @@
--- Laws of `nearOf`, and `Divided`, what the code works it out by. Callers cite these and never its text.
-use mathlib.Core.Path.{_≡_, sym, ap, _∙_, subst}
-use Prim.Native.Nat.{ℕ, suc, _+_, _*_, _/_, _%_, _≤_, _<_}
+-- Laws of `nearOf`, and `Divided`, what the code works it out by. Callers cite these and, but for worked cases, never its text.
+use mathlib.Core.Path.{_≡_, refl, sym, ap, _∙_, subst}
+use mathlib.Core.Bool.{Bool, true, false, not, _&&_, _||_}
+use Prim.Native.Nat.{ℕ, zero, suc, _+_, _*_, _/_, _%_, _≤_, _<_}
 use native.Mathlib.Omega.{arith}
 use native.Mathlib.Nat.{div-le-self, div-add-mod', mod-lt, lt-of-mul-lt-mul-right}
+use borrow.Author.Tests.{le-ltb, eq-eqb, ne-eqb, eqb-false}
+use lib.Dec.{T, eqb, ltb, ltb→lt, nltb→le, eqb→eq}
 use lib.IntN.{ℤ, pos, negsuc, negℤ, natAbs, _+ℤ_, _-ℤ_, _*ℤ_}
 use lib.Signed.{shrZ, quotZ, remZ, _≤ℤ_, _<ℤ_, ≤ℤ-refl}
-use Rattle.charts.specs.Rounding.{nearOf}
-use Rattle.charts.specs.Integers.{up, dn, sum, diff, prod, one-zero, abs-ud, up-neg, dn-neg, ud-eq, ud-le, ud-lt, le-ud, lt-ud, eq-ud, ≤ℤ-antisymm}
+use Rattle.charts.specs.Tests.{if_then_else_, if-all, if-yes, if-no}
+use Rattle.charts.specs.Rounding.{odd, roundsUp, nearOf}
+use Rattle.charts.specs.Integers.{up, dn, sum, diff, prod, one-zero, abs-ud, abs-prod, up-neg, dn-neg, ud-eq, ud-le, ud-lt, le-ud, lt-ud, eq-ud}
 
 -- the floor of z / m, by what it is
 pub record IsFloor (z : ℤ) (m : ℕ) (q : ℤ) : Type 0 where
@@ -23,115 +27,289 @@ floor-is (negsuc a) m h = record {
   high = ud-lt (omega (arith, sum (negsuc (a / m) *ℤ pos m) (pos m), prod (negsuc (a / m)) (pos m), div-add-mod' a m, mod-lt a h));
 }
 
-near-floor : (n : ℤ) (m : ℕ) → 0 < m → IsFloor (pos 2 *ℤ n +ℤ pos m) (2 * m) (nearOf n (pos m))
+-- one number has one floor
+pub floor-unique : {z : ℤ} {m : ℕ} {p q : ℤ} → IsFloor z m p → IsFloor z m q → p ≡ q
+floor-unique {z} {m} {p} {q} P Q = ud-eq (omega (arith, below P Q, below Q P))
+  where
+    below : {p q : ℤ} → IsFloor z m p → IsFloor z m q → up p + dn q < dn p + up q + 1
+    below {p} {q} P Q =
+        lt-of-mul-lt-mul-right m
+        (omega (arith, le-ud (P .low), lt-ud (Q .high), prod p (pos m), prod q (pos m), sum (q *ℤ pos m) (pos m)))
+
+-- ---- the test of a half
+
+-- what goes up lies at a half or over it, what doesn't at a half or under it
+pub up-over : (e : ℕ) (o : Bool) (r d : ℕ) → T (roundsUp e o r d) → d ≤ 2 * r
+unfolding roundsUp
+up-over e o r d t = go (ltb d (2 * r)) (eqb d (2 * r)) _ (λ t. ltb→lt d (2 * r) t) (λ t. eqb→eq d (2 * r) t) t
+  where
+    go : (a b w : Bool) → (T a → d < 2 * r) → (T b → d ≡ 2 * r) → T (a || b && w) → d ≤ 2 * r
+    go true b w f g t = let l = f tt in omega arith
+    go false true w f g t = let l = g tt in omega arith
+    go false false w f g t = absurd t
+
+down-under : (e : ℕ) (o : Bool) (r d : ℕ) → T (not (roundsUp e o r d)) → 2 * r ≤ d
+unfolding roundsUp
+down-under e o r d t = go (ltb d (2 * r)) _ (λ t. nltb→le d (2 * r) t) t
+  where
+    go : (a w : Bool) → (T (not a) → 2 * r ≤ d) → T (not (a || w)) → 2 * r ≤ d
+    go true w f t = absurd t
+    go false w f t = f tt
+
+-- in every edition but the second a half goes up
+half-up : (e : ℕ) (o : Bool) (r d : ℕ) → (e ≡ 2 → ⊥) → T (not (roundsUp e o r d)) → 2 * r < d
+unfolding roundsUp
+half-up e o r d n t =
+    go (ltb d (2 * r)) (eqb d (2 * r)) (λ t. nltb→le d (2 * r) t) (λ k. eqb-false d (2 * r) k) (rw (ne-eqb e 2 n) at t)
+  where
+    go : (a b : Bool) → (T (not a) → 2 * r ≤ d) → (b ≡ false → d ≡ 2 * r → ⊥) → T (not (a || b && true)) → 2 * r < d
+    go true b f g t = absurd t
+    go false true f g t = absurd t
+    go false false f g t = below (f tt) (λ k. g refl (sym k))
+      where
+        below : 2 * r ≤ d → (2 * r ≡ d → ⊥) → 2 * r < d
+        below l k = omega arith
+
+-- in the second it goes up from an odd whole number only
+half-even : (o : Bool) (r d : ℕ) → d ≡ 2 * r → roundsUp 2 o r d ≡ o
+unfolding roundsUp
+half-even o r d e = rw (le-ltb d (2 * r) (omega arith), eq-eqb d (2 * r) e)
+
+-- ---- the floor and what is left over
+
+module _ (n : ℤ) (m : ℕ) (h : 0 < m) where
+  abbrev q : ℤ
+  q = shrZ n m
+
+  abbrev r : ℕ
+  r = natAbs (n -ℤ q *ℤ pos m)
+
+  -- n is q·m + r
+  rest-parts : up n + dn q * m ≡ dn n + up q * m + r
+  rest-parts =
+      let f₁ = prod q (pos m) in
+      let f₂ = diff n (q *ℤ pos m) in
+      omega (arith, le-ud (floor-is n m h .low), abs-ud (n -ℤ q *ℤ pos m), one-zero (n -ℤ q *ℤ pos m))
+
+  rest-below : r < m
+  rest-below =
+      let f₁ = prod q (pos m) in
+      let f₂ = sum (q *ℤ pos m) (pos m) in
+      omega (arith, rest-parts, lt-ud (floor-is n m h .high))
+
+-- ---- the half bound, which both rules meet: at most half of d is lost
+
+-- q is one of the whole numbers nearest to n / m: 2|qm - n| ≤ m
+pub record Halved (n : ℤ) (m : ℕ) (q : ℤ) : Type 0 where
+  pub low : (pos 2 *ℤ (q *ℤ pos m)) ≤ℤ (pos 2 *ℤ n +ℤ pos m)
+  pub high : (pos 2 *ℤ n) ≤ℤ (pos 2 *ℤ (q *ℤ pos m) +ℤ pos m)
+
+near-halved : (e : ℕ) (n : ℤ) (m : ℕ) → 0 < m → Halved n m (nearOf e n (pos m))
 unfolding nearOf
-near-floor n m h = floor-is (pos 2 *ℤ n +ℤ pos m) (2 * m) (omega arith)
+near-halved e n m h =
+    let l = rest-parts n m h in
+    let u = rest-below n m h in
+    let f₁ = prod q (pos m) in
+    let f₆ = prod (pos 2) n in
+    let f₇ = sum (pos 2 *ℤ n) (pos m) in
+    let g₁ = prod (pos 2) (q *ℤ pos m) in
+    let g₂ = sum (pos 2 *ℤ (q *ℤ pos m)) (pos m) in
+    let k₁ = sum q (pos 1) in
+    let k₂ = prod (q +ℤ pos 1) (pos m) in
+    let k₃ = prod (pos 2) ((q +ℤ pos 1) *ℤ pos m) in
+    let k₄ = ap (λ (k : ℕ). k * m) k₁ in
+    let k₅ = sum (pos 2 *ℤ ((q +ℤ pos 1) *ℤ pos m)) (pos m) in
+    if-all (Halved n m) (roundsUp e (odd q) r m) (q +ℤ pos 1) q
+    (λ t. let o = up-over e (odd q) r m t in record { low = ud-le (omega arith); high = ud-le (omega arith) })
+    (λ t. let o = down-under e (odd q) r m t in record { low = ud-le (omega arith); high = ud-le (omega arith) })
+  where
+    q : ℤ
+    q = shrZ n m
+
+    r : ℕ
+    r = natAbs (n -ℤ q *ℤ pos m)
+
+-- of numbers nearest to n ≤ n′ the first is over the second by one at most
+halved-order : {n n′ : ℤ} {m : ℕ} {p q : ℤ} → 0 < m → n ≤ℤ n′ → Halved n m p → Halved n′ m q → up p + dn q ≤ dn p + up q + 1
+halved-order {n} {n′} {m} {p} {q} h k P Q =
+    let f₁ = prod p (pos m) in
+    let f₂ = prod (pos 2) (p *ℤ pos m) in
+    let f₃ = prod q (pos m) in
+    let f₄ = prod (pos 2) (q *ℤ pos m) in
+    let f₅ = prod (pos 2) n in
+    let f₆ = prod (pos 2) n′ in
+    let f₇ = sum (pos 2 *ℤ n) (pos m) in
+    let f₈ = sum (pos 2 *ℤ (q *ℤ pos m)) (pos m) in
+    let l : (up p + dn q) * m < (dn p + up q + 2) * m = omega (arith, le-ud (P .low), le-ud (Q .high), le-ud k) in
+    omega (arith, lt-of-mul-lt-mul-right m l)
+
+-- and by one only where n is n′
+halved-same : {n n′ : ℤ} {m : ℕ} {p q : ℤ} → n ≤ℤ n′ → Halved n m p → Halved n′ m q → up p + dn q ≡ dn p + up q + 1 → n ≡ n′
+halved-same {n} {n′} {m} {p} {q} k P Q e =
+    let f₁ = prod p (pos m) in
+    let f₂ = prod (pos 2) (p *ℤ pos m) in
+    let f₃ = prod q (pos m) in
+    let f₄ = prod (pos 2) (q *ℤ pos m) in
+    let f₅ = prod (pos 2) n in
+    let f₆ = prod (pos 2) n′ in
+    let f₇ = sum (pos 2 *ℤ n) (pos m) in
+    let f₈ = sum (pos 2 *ℤ (q *ℤ pos m)) (pos m) in
+    let g = ap (λ (k : ℕ). k * m) e in
+    ud-eq (omega (arith, le-ud (P .low), le-ud (Q .high), le-ud k))
 
 -- ---- what callers use
 
--- q is near(n/d): 2qd ≤ 2n + d < 2(q + 1)d
-pub record IsNear (n d q : ℤ) : Type 0 where
-  pub low : (pos 2 *ℤ (q *ℤ d)) ≤ℤ (pos 2 *ℤ n +ℤ d)
-  pub high : (pos 2 *ℤ n +ℤ d) <ℤ (pos 2 *ℤ ((q +ℤ pos 1) *ℤ d))
-
-pub near-is : (n d : ℤ) → pos 0 <ℤ d → IsNear n d (nearOf n d)
-near-is n (negsuc m) h = absurd (h .lt)
-near-is n (pos m) h =
-    let q = nearOf n (pos m) in
-    let F = near-floor n m (omega (arith, lt-ud h)) in
-    let f₁ = prod q (pos m) in
-    let f₂ = prod q (pos (2 * m)) in
-    let f₃ = prod (pos 2) (q *ℤ pos m) in
-    let f₄ = sum q (pos 1) in
-    let f₅ = prod (q +ℤ pos 1) (pos m) in
-    let f₆ = prod (pos 2) ((q +ℤ pos 1) *ℤ pos m) in
-    let f₇ = sum (q *ℤ pos (2 * m)) (pos (2 * m)) in
-    let f₈ = ap (λ (k : ℕ). k * m) f₄ in
-    record {
-      low = ud-le (omega (arith, le-ud (F .low)));
-      high = ud-lt (omega (arith, lt-ud (F .high)));
-    }
-
--- a larger numerator has no smaller nearest number, and one numerator has one
-pub near-order : {n n′ d p q : ℤ} → pos 0 <ℤ d → n ≤ℤ n′ → IsNear n d p → IsNear n′ d q → p ≤ℤ q
-near-order {d = negsuc m} h k P Q = absurd (h .lt)
-near-order {n} {n′} {d = pos m} {p} {q} h k P Q =
-    let f₁ = prod p (pos m) in
-    let f₂ = prod (pos 2) (p *ℤ pos m) in
-    let f₃ = sum q (pos 1) in
-    let f₄ = prod (q +ℤ pos 1) (pos m) in
-    let f₅ = prod (pos 2) ((q +ℤ pos 1) *ℤ pos m) in
-    let f₆ = prod (pos 2) n in
-    let f₇ = prod (pos 2) n′ in
-    let f₈ = sum (pos 2 *ℤ n) (pos m) in
-    let f₉ = sum (pos 2 *ℤ n′) (pos m) in
-    let less : (up p + dn (q +ℤ pos 1)) * m < (dn p + up (q +ℤ pos 1)) * m = omega (arith, le-ud (P .low), lt-ud (Q .high), le-ud k) in
-    ud-le (omega (arith, lt-of-mul-lt-mul-right m less))
-
-pub near-unique : {n d p q : ℤ} → pos 0 <ℤ d → IsNear n d p → IsNear n d q → p ≡ q
-near-unique {n} h P Q = ≤ℤ-antisymm (near-order h (≤ℤ-refl n) P Q) (near-order h (≤ℤ-refl n) Q P)
-
-pub near-mono : {n n′ : ℤ} (d : ℤ) → pos 0 <ℤ d → n ≤ℤ n′ → nearOf n d ≤ℤ nearOf n′ d
-near-mono {n} {n′} d h k = near-order h k (near-is n d h) (near-is n′ d h)
-
--- at most half of d is lost: |2(qd - n)| ≤ d
-pub near-half-bound : (n d : ℤ) → pos 0 <ℤ d → natAbs (pos 2 *ℤ (nearOf n d *ℤ d -ℤ n)) ≤ natAbs d
-near-half-bound n (negsuc m) h = absurd (h .lt)
-near-half-bound n (pos m) h =
-    let q = nearOf n (pos m) in
-    let N = near-is n (pos m) h in
+pub near-half-bound : (e : ℕ) (n d : ℤ) → pos 0 <ℤ d → natAbs (pos 2 *ℤ (nearOf e n d *ℤ d -ℤ n)) ≤ natAbs d
+near-half-bound e n (negsuc m) h = absurd (h .lt)
+near-half-bound e n (pos m) h =
+    let q = nearOf e n (pos m) in
+    let N = near-halved e n m (omega (arith, lt-ud h)) in
     let f₁ = prod q (pos m) in
     let f₂ = prod (pos 2) (q *ℤ pos m) in
-    let f₃ = sum q (pos 1) in
-    let f₄ = prod (q +ℤ pos 1) (pos m) in
-    let f₅ = prod (pos 2) ((q +ℤ pos 1) *ℤ pos m) in
-    let f₆ = ap (λ (k : ℕ). k * m) f₃ in
-    let f₇ = prod (pos 2) n in
-    let f₈ = sum (pos 2 *ℤ n) (pos m) in
-    let f₉ = diff (q *ℤ pos m) n in
+    let f₃ = sum (pos 2 *ℤ (q *ℤ pos m)) (pos m) in
+    let f₄ = prod (pos 2) n in
+    let f₅ = sum (pos 2 *ℤ n) (pos m) in
+    let f₆ = diff (q *ℤ pos m) n in
     let z = pos 2 *ℤ (q *ℤ pos m -ℤ n) in
     let g₁ = prod (pos 2) (q *ℤ pos m -ℤ n) in
     let g₂ = abs-ud z in
     let g₃ = one-zero z in
-    omega (arith, le-ud (N .low), lt-ud (N .high))
+    omega (arith, le-ud (N .low), le-ud (N .high))
+
+-- a larger numerator has no smaller nearest number: one edition rounds one number in one way
+pub near-mono : (e : ℕ) {n n′ : ℤ} (d : ℤ) → pos 0 <ℤ d → n ≤ℤ n′ → nearOf e n d ≤ℤ nearOf e n′ d
+near-mono e (negsuc m) h k = absurd (h .lt)
+near-mono e {n} {n′} (pos m) h k = go (ltb b a) (λ t. ltb→lt b a t) (λ t. nltb→le b a t)
+  where
+    l : 0 < m
+    l = omega (arith, lt-ud h)
+
+    a : ℕ
+    a = up (nearOf e n (pos m)) + dn (nearOf e n′ (pos m))
+
+    b : ℕ
+    b = dn (nearOf e n (pos m)) + up (nearOf e n′ (pos m))
+
+    go : (t : Bool) → (T t → b < a) → (T (not t) → a ≤ b) → nearOf e n (pos m) ≤ℤ nearOf e n′ (pos m)
+    go true f g =
+        let P = near-halved e n m l in
+        let Q = near-halved e n′ m l in
+        let s : n ≡ n′ = halved-same k P Q (omega (arith, halved-order l k P Q, f tt)) in
+        rw s (≤ℤ-refl (nearOf e n′ (pos m)))
+    go false f g = ud-le (omega (arith, g tt))
 
 -- a whole number is its own nearest
-pub near-whole : (q d : ℤ) → pos 0 <ℤ d → nearOf (q *ℤ d) d ≡ q
-near-whole q (negsuc m) h = absurd (h .lt)
-near-whole q (pos m) h =
-    let f₁ = prod (pos 2) (q *ℤ pos m) in
-    let f₂ = prod q (pos m) in
-    let f₃ = sum q (pos 1) in
-    let f₄ = prod (q +ℤ pos 1) (pos m) in
-    let f₅ = prod (pos 2) ((q +ℤ pos 1) *ℤ pos m) in
-    let f₆ = ap (λ (k : ℕ). k * m) f₃ in
-    let f₇ = sum (pos 2 *ℤ (q *ℤ pos m)) (pos m) in
-    near-unique h (near-is (q *ℤ pos m) (pos m) h) (record { low = ud-le (omega arith); high = ud-lt (omega (arith, lt-ud h)) })
+pub near-whole : (e : ℕ) (q d : ℤ) → pos 0 <ℤ d → nearOf e (q *ℤ d) d ≡ q
+near-whole e q (negsuc m) h = absurd (h .lt)
+near-whole e q (pos m) h =
+    let p = nearOf e (q *ℤ pos m) (pos m) in
+    let N = near-halved e (q *ℤ pos m) m (omega (arith, lt-ud h)) in
+    let f₁ = prod p (pos m) in
+    let f₂ = prod (pos 2) (p *ℤ pos m) in
+    let f₃ = prod q (pos m) in
+    let f₄ = prod (pos 2) (q *ℤ pos m) in
+    let f₅ = sum (pos 2 *ℤ (q *ℤ pos m)) (pos m) in
+    let f₆ = sum (pos 2 *ℤ (p *ℤ pos m)) (pos m) in
+    let a : (up p + dn q) * m < (dn p + up q + 1) * m = omega (arith, le-ud (N .low), lt-ud h) in
+    let b : (up q + dn p) * m < (dn q + up p + 1) * m = omega (arith, le-ud (N .high), lt-ud h) in
+    ud-eq (omega (arith, lt-of-mul-lt-mul-right m a, lt-of-mul-lt-mul-right m b))
 
 -- |n| at most k·d makes |near| at most k
-pub near-bound : (n d : ℤ) (k : ℕ) → pos 0 <ℤ d → natAbs n ≤ k * natAbs d → natAbs (nearOf n d) ≤ k
-near-bound n (negsuc m) k h b = absurd (h .lt)
-near-bound n (pos m) k h b =
-    let q = nearOf n (pos m) in
-    let top = near-mono (pos m) h (ud-le {a = n} {b = pos k *ℤ pos m} (omega (arith, abs-ud n, one-zero n))) in
-    let bottom = near-mono (pos m) h (ud-le {a = negℤ (pos k) *ℤ pos m} {b = n} (omega (arith, abs-ud n, one-zero n, prod (negℤ (pos k)) (pos m), ap (λ (x : ℕ). x * m) (up-neg (pos k)), ap (λ (x : ℕ). x * m) (dn-neg (pos k))))) in
-    let high : q ≤ℤ pos k = rw (near-whole (pos k) (pos m) h) at top in
-    let low : negℤ (pos k) ≤ℤ q = rw (near-whole (negℤ (pos k)) (pos m) h) at bottom in
-    omega (arith, le-ud high, le-ud low, up-neg (pos k), dn-neg (pos k), abs-ud q, one-zero q)
+pub near-bound : (e : ℕ) (n d : ℤ) (k : ℕ) → pos 0 <ℤ d → natAbs n ≤ k * natAbs d → natAbs (nearOf e n d) ≤ k
+near-bound e n (negsuc m) k h b = absurd (h .lt)
+near-bound e n (pos m) k h b =
+    let q = nearOf e n (pos m) in
+    let N = near-halved e n m (omega (arith, lt-ud h)) in
+    let f₁ = prod q (pos m) in
+    let f₂ = prod (pos 2) (q *ℤ pos m) in
+    let f₃ = prod (pos 2) n in
+    let f₄ = sum (pos 2 *ℤ n) (pos m) in
+    let f₅ = sum (pos 2 *ℤ (q *ℤ pos m)) (pos m) in
+    let a : up q * m < (k + dn q + 1) * m = omega (arith, le-ud (N .low), lt-ud h, abs-ud n, one-zero n) in
+    let c : dn q * m < (k + up q + 1) * m = omega (arith, le-ud (N .high), lt-ud h, abs-ud n, one-zero n) in
+    omega (arith, lt-of-mul-lt-mul-right m a, lt-of-mul-lt-mul-right m c, abs-ud q, one-zero q)
 
-near-zero : (m : ℕ) → pos 0 <ℤ pos m → nearOf (pos 0) (pos m) ≡ pos 0
-near-zero m h = let z : pos 0 *ℤ pos m ≡ pos 0 = ap pos (omega arith) in ap (λ (v : ℤ). nearOf v (pos m)) (sym z) ∙ near-whole (pos 0) (pos m) h
+near-zero : (e m : ℕ) → pos 0 <ℤ pos m → nearOf e (pos 0) (pos m) ≡ pos 0
+near-zero e m h = let z : pos 0 *ℤ pos m ≡ pos 0 = ap pos (omega arith) in ap (λ (v : ℤ). nearOf e v (pos m)) (sym z) ∙ near-whole e (pos 0) (pos m) h
 
 -- what is not below 0 stays so, and what is not above 0 too
-pub near-nonneg : (n d : ℤ) → pos 0 <ℤ d → pos 0 ≤ℤ n → pos 0 ≤ℤ nearOf n d
-near-nonneg n (negsuc m) h k = absurd (h .lt)
-near-nonneg n (pos m) h k = rw (near-zero m h) at (near-mono (pos m) h k)
+pub near-nonneg : (e : ℕ) (n d : ℤ) → pos 0 <ℤ d → pos 0 ≤ℤ n → pos 0 ≤ℤ nearOf e n d
+near-nonneg e n (negsuc m) h k = absurd (h .lt)
+near-nonneg e n (pos m) h k = rw (near-zero e m h) at (near-mono e (pos m) h k)
 
-pub near-nonpos : (n d : ℤ) → pos 0 <ℤ d → n ≤ℤ pos 0 → nearOf n d ≤ℤ pos 0
-near-nonpos n (negsuc m) h k = absurd (h .lt)
-near-nonpos n (pos m) h k = rw (near-zero m h) at (near-mono (pos m) h k)
+pub near-nonpos : (e : ℕ) (n d : ℤ) → pos 0 <ℤ d → n ≤ℤ pos 0 → nearOf e n d ≤ℤ pos 0
+near-nonpos e n (negsuc m) h k = absurd (h .lt)
+near-nonpos e n (pos m) h k = rw (near-zero e m h) at (near-mono e (pos m) h k)
 
--- ---- as the code has it: quotient and rest, and whether the rest is half of d or more
+-- EDITION 1 STAYS: in it, and under every number but 2, near(n/d) is the floor of (2n + d) / 2d
+pub near-first : (e : ℕ) (n : ℤ) (m : ℕ) → 0 < m → (e ≡ 2 → ⊥) → nearOf e n (pos m) ≡ shrZ (pos 2 *ℤ n +ℤ pos m) (2 * m)
+unfolding nearOf
+near-first e n m h ne =
+    let l = rest-parts n m h in
+    let u = rest-below n m h in
+    let f₁ = prod q (pos m) in
+    let f₆ = prod (pos 2) n in
+    let f₇ = sum (pos 2 *ℤ n) (pos m) in
+    let g₁ = prod q (pos (2 * m)) in
+    let g₂ = sum (q *ℤ pos (2 * m)) (pos (2 * m)) in
+    let k₁ = sum q (pos 1) in
+    let k₂ = prod (q +ℤ pos 1) (pos (2 * m)) in
+    let k₃ = ap (λ (k : ℕ). k * m) k₁ in
+    let k₄ = sum ((q +ℤ pos 1) *ℤ pos (2 * m)) (pos (2 * m)) in
+    floor-unique
+    (if-all (IsFloor (pos 2 *ℤ n +ℤ pos m) (2 * m)) (roundsUp e (odd q) r m) (q +ℤ pos 1) q
+    (λ t. let o = up-over e (odd q) r m t in record { low = ud-le (omega arith); high = ud-lt (omega arith) })
+    (λ t. let o = half-up e (odd q) r m ne t in record { low = ud-le (omega arith); high = ud-lt (omega arith) }))
+    (floor-is (pos 2 *ℤ n +ℤ pos m) (2 * m) (omega arith))
+  where
+    q : ℤ
+    q = shrZ n m
+
+    r : ℕ
+    r = natAbs (n -ℤ q *ℤ pos m)
+
+-- behind an odd number comes an even one
+odd-next : (q : ℤ) → T (odd q) → odd (q +ℤ pos 1) ≡ false
+unfolding odd
+odd-next q t =
+    let f₁ = eqb→eq (natAbs q % 2) 1 t in
+    let f₂ = sum q (pos 1) in
+    ne-eqb (natAbs (q +ℤ pos 1) % 2) 1
+    (λ k. omega (arith, abs-ud q, one-zero q, abs-ud (q +ℤ pos 1), one-zero (q +ℤ pos 1)))
+
+-- EDITION 2: where two whole numbers are equally near, 2|qm - n| = m, it takes the even one
+pub near-even : (n : ℤ) (m : ℕ) → 0 < m → natAbs (pos 2 *ℤ (nearOf 2 n (pos m) *ℤ pos m -ℤ n)) ≡ m → odd (nearOf 2 n (pos m)) ≡ false
+unfolding nearOf
+near-even n m h =
+    let l = rest-parts n m h in
+    let u = rest-below n m h in
+    let f₁ = prod q (pos m) in
+    let g₁ = diff (q *ℤ pos m) n in
+    let g₂ = abs-prod (pos 2) (q *ℤ pos m -ℤ n) in
+    let g₃ = abs-ud (q *ℤ pos m -ℤ n) in
+    let g₄ = one-zero (q *ℤ pos m -ℤ n) in
+    let p = (q +ℤ pos 1) *ℤ pos m in
+    let k₁ = ap (λ (k : ℕ). k * m) (sum q (pos 1)) in
+    let k₂ = prod (q +ℤ pos 1) (pos m) in
+    let k₃ = diff p n in
+    let k₄ = abs-prod (pos 2) (p -ℤ n) in
+    let k₅ = abs-ud (p -ℤ n) in
+    let k₆ = one-zero (p -ℤ n) in
+    if-all (λ (v : ℤ). natAbs (pos 2 *ℤ (v *ℤ pos m -ℤ n)) ≡ m → odd v ≡ false) (roundsUp 2 (odd q) r m) (q +ℤ pos 1) q
+    (λ t e. odd-next q (rw (half-even (odd q) r m (omega arith)) at t))
+    (λ t e. even (odd q) (rw (half-even (odd q) r m (omega arith)) at t))
+  where
+    q : ℤ
+    q = shrZ n m
+
+    r : ℕ
+    r = natAbs (n -ℤ q *ℤ pos m)
+
+    even : (o : Bool) → T (not o) → o ≡ false
+    even true t = absurd t
+    even false t = refl
+
+-- ---- as the code has it: quotient and rest, and the test of a half
 
 -- q is the floor of n / d, and r what is left over
 pub record Divided (n d q r : ℤ) : Type 0 where
@@ -139,49 +317,51 @@ pub record Divided (n d q r : ℤ) : Type 0 where
   pub high : r <ℤ d
   pub parts : n ≡ q *ℤ d +ℤ r
 
-module _ (n : ℤ) (m : ℕ) (q r : ℤ) (h : pos 0 <ℤ pos m) (D : Divided n (pos m) q r) where
-  quotient : r <ℤ (pos m -ℤ r) → q ≡ nearOf n (pos m)
-  quotient l =
-      let f₁ = prod q (pos m) in
-      let f₂ = sum (q *ℤ pos m) r in
-      let f₃ = eq-ud (D .parts) in
-      let f₄ = prod (pos 2) (q *ℤ pos m) in
-      let f₅ = sum q (pos 1) in
-      let f₆ = ap (λ (k : ℕ). k * m) f₅ in
-      let f₇ = prod (q +ℤ pos 1) (pos m) in
-      let f₈ = prod (pos 2) ((q +ℤ pos 1) *ℤ pos m) in
-      let f₉ = prod (pos 2) n in
-      let g₁ = sum (pos 2 *ℤ n) (pos m) in
-      let g₂ = diff (pos m) r in
-      near-unique h (record { low = ud-le (omega (arith, le-ud (D .low))); high = ud-lt (omega (arith, lt-ud l)) }) (near-is n (pos m) h)
+module _ (e : ℕ) (n : ℤ) (m : ℕ) (q r : ℤ) (h : pos 0 <ℤ pos m) (D : Divided n (pos m) q r) where
+  whole : shrZ n m ≡ q
+  whole =
+      let f₁ = sum (q *ℤ pos m) r in
+      let f₂ = eq-ud (D .parts) in
+      let f₃ = sum (q *ℤ pos m) (pos m) in
+      floor-unique (floor-is n m (omega (arith, lt-ud h)))
+      (record { low = ud-le (omega (arith, le-ud (D .low))); high = ud-lt (omega (arith, lt-ud (D .high))) })
 
-  next : (pos m -ℤ r) ≤ℤ r → q +ℤ pos 1 ≡ nearOf n (pos m)
-  next l =
-      let p = q +ℤ pos 1 in
-      let f₁ = prod q (pos m) in
-      let f₂ = sum (q *ℤ pos m) r in
-      let f₃ = eq-ud (D .parts) in
-      let f₄ = sum q (pos 1) in
-      let f₅ = ap (λ (k : ℕ). k * m) f₄ in
-      let f₆ = prod p (pos m) in
-      let f₇ = prod (pos 2) (p *ℤ pos m) in
-      let f₈ = sum p (pos 1) in
-      let f₉ = ap (λ (k : ℕ). k * m) f₈ in
-      let g₁ = prod (p +ℤ pos 1) (pos m) in
-      let g₂ = prod (pos 2) ((p +ℤ pos 1) *ℤ pos m) in
-      let g₃ = prod (pos 2) n in
-      let g₄ = sum (pos 2 *ℤ n) (pos m) in
-      let g₅ = diff (pos m) r in
-      near-unique h (record { low = ud-le (omega (arith, le-ud l)); high = ud-lt (omega (arith, lt-ud (D .high))) }) (near-is n (pos m) h)
+  rest : natAbs (n -ℤ q *ℤ pos m) ≡ natAbs r
+  rest =
+      let z = n -ℤ q *ℤ pos m in
+      omega (arith, eq-ud (D .parts), sum (q *ℤ pos m) r, diff n (q *ℤ pos m), abs-ud z, one-zero z, abs-ud r, one-zero r)
 
--- the quotient where the rest is below half of d, else one more
-pub near-quotient : (n d : ℤ) {q r : ℤ} → pos 0 <ℤ d → Divided n d q r → r <ℤ (d -ℤ r) → q ≡ nearOf n d
-near-quotient n (pos m) {q} {r} h D l = quotient n m q r h D l
-near-quotient n (negsuc m) h D l = absurd (h .lt)
+  tested : nearOf e n (pos m) ≡ (if roundsUp e (odd q) (natAbs r) m then q +ℤ pos 1 else q)
+  unfolding nearOf
+  tested = rw (whole, rest)
 
-pub near-next : (n d : ℤ) {q r : ℤ} → pos 0 <ℤ d → Divided n d q r → (d -ℤ r) ≤ℤ r → q +ℤ pos 1 ≡ nearOf n d
-near-next n (pos m) {q} {r} h D l = next n m q r h D l
-near-next n (negsuc m) h D l = absurd (h .lt)
+-- one more where the test says so, else the quotient
+pub near-up : (e : ℕ) (n d : ℤ) {q r : ℤ} → pos 0 <ℤ d → Divided n d q r → roundsUp e (odd q) (natAbs r) (natAbs d) ≡ true → q +ℤ pos 1 ≡ nearOf e n d
+near-up e n (pos m) {q} {r} h D t = sym (tested e n m q r h D ∙ if-yes _ _ _ t)
+near-up e n (negsuc m) h D t = absurd (h .lt)
+
+pub near-down : (e : ℕ) (n d : ℤ) {q r : ℤ} → pos 0 <ℤ d → Divided n d q r → roundsUp e (odd q) (natAbs r) (natAbs d) ≡ false → q ≡ nearOf e n d
+near-down e n (pos m) {q} {r} h D t = sym (tested e n m q r h D ∙ if-no _ _ _ t)
+near-down e n (negsuc m) h D t = absurd (h .lt)
+
+-- the code asks whether the remainder by 2 is 0, of either sign
+pub odd-unsigned : (n : ℕ) → not (eqb (n % 2) 0) ≡ odd (pos n)
+unfolding odd
+odd-unsigned n = go (n % 2) (mod-lt n (omega arith))
+  where
+    go : (r : ℕ) → r < 2 → not (eqb r 0) ≡ eqb r 1
+    go zero h = refl
+    go (suc zero) h = refl
+    go (suc (suc r)) h = absurd (omega arith)
+
+pub odd-signed : (q : ℤ) → not (eqb (natAbs (remZ q (pos 2))) 0) ≡ odd q
+unfolding odd
+odd-signed (pos a) = odd-unsigned a
+odd-signed (negsuc a) = ap (λ (n : ℕ). not (eqb n 0)) (neg-abs (suc a % 2)) ∙ odd-unsigned (suc a)
+  where
+    neg-abs : (n : ℕ) → natAbs (negℤ (pos n)) ≡ n
+    neg-abs zero = refl
+    neg-abs (suc n) = refl
 
 pub divided-unsigned : (n m : ℕ) → 0 < m → Divided (pos n) (pos m) (pos (n / m)) (pos (n % m))
 divided-unsigned n m h = record {

@@ -70,9 +70,9 @@ pub blank-sound : Sound blank
 unfolding blank
 blank-sound = record { readings = omega arith; last = zero-ranged; rising = empty-within _ _; falling = empty-within _ _; precision = empty-within _ _ }
 
-pub applied-sound : (c : Chart) (s : ℕ) (d : ℤ) → Sound c → c .readings < 100000 → Ranged d → Sound (appliedOf c s d)
+pub applied-sound : (c : Chart) (e s : ℕ) (d : ℤ) → Sound c → c .readings < 100000 → Ranged d → Sound (appliedOf c e s d)
 unfolding appliedOf
-applied-sound c s d S r D = record {
+applied-sound c e s d S r D = record {
   readings = omega arith;
   last = D;
   rising = added-within mostRising (c .readings) (c .rising) (risingTerm s d) (rising-most s D) (S .rising);

@@ -2,7 +2,7 @@ ghost use mathlib.Core.Path.{_≡_};
 ghost use Prim.Native.Nat.{_+_, _-_, _*_, _<_, _≤_, _^_};
 ghost use lib.IntN.{pos, natAbs, _+ℤ_, _-ℤ_};
 ghost use lib.Signed.{_<ℤ_};
-ghost use Rattle.charts.specs.Rounding.{nearOf};
+ghost use Rattle.charts.specs.Rounding.{editionKnown, nearOf, roundsUp};
 ghost use Rattle.charts.specs.RoundingLaws.{Divided};
 ghost use Rattle.charts.specs.Sums.{added};
 ghost use Rattle.charts.specs.Charts.{adjustmentOf, alarmsOf, appliedOf, blank, resetOf};
@@ -28,29 +28,50 @@ fn divide(n: i64, d: i64) -> Division
     }
 }
 
-// The whole number nearest to n / d, halves going up, for a signed numerator.
-pub fn near(n: i64, d: i64) -> i64
+// Whether there is such an edition.
+pub fn edition_known(edition: u8) -> bool
+    ensures { λ b. ⌜ b ≡ editionKnown edition ⌝ }
+{
+    (edition == 1) | (edition == 2)
+}
+
+// Whether the next whole number is taken where r/d is left over: above a half, and at a half in edition 2 only from an odd number.
+fn rounds_up(edition: u8, odd: bool, r: u64, d: u64) -> bool
+    requires { ⌜ r < d ⌝ }
+    ensures { λ b. ⌜ b ≡ roundsUp edition odd r d ⌝ }
+{
+    if r < d - r {
+        return false;
+    }
+    if d - r < r {
+        return true;
+    }
+    (edition != 2) | odd
+}
+
+// The whole number nearest to n / d, a half by the rule of the edition, for a signed numerator.
+pub fn near(edition: u8, n: i64, d: i64) -> i64
     requires { ⌜ (natAbs n ≤ 2 ^ 62) × (pos 0 <ℤ d) × (natAbs d ≤ 2 ^ 61) ⌝ }
-    ensures { λ r. ⌜ r ≡ nearOf n d ⌝ }
+    ensures { λ r. ⌜ r ≡ nearOf edition n d ⌝ }
 {
     let p = divide(n, d);
-    if p.rest < d - p.rest {
-        return p.whole;
+    if rounds_up(edition, p.whole % 2 != 0, p.rest as u64, d as u64) {
+        return p.whole + 1;
     }
-    p.whole + 1
+    p.whole
 }
 
 // The same where the numerator is not negative, for every numerator and every divisor above 0.
-pub fn near_unsigned(n: u64, d: u64) -> u64
+pub fn near_unsigned(edition: u8, n: u64, d: u64) -> u64
     requires { ⌜ 0 < d ⌝ }
-    ensures { λ r. ⌜ pos r ≡ nearOf (pos n) (pos d) ⌝ }
+    ensures { λ r. ⌜ pos r ≡ nearOf edition (pos n) (pos d) ⌝ }
 {
     let q = n / d;
     let r = n % d;
-    if r < d - r {
-        return q;
+    if rounds_up(edition, q % 2 != 0, r, d) {
+        return q + 1;
     }
-    q + 1
+    q
 }
 
 // One sum of a chart (paper 01: P, M or V) with the count of the readings in it.
@@ -94,16 +115,16 @@ fn add(u: Sum, adds: u64, takes: u64) -> Sum
 }
 
 // The adjustment from a drift sum and its count after a reading, 0 where they show no alarm.
-fn adjustment(value: u64, count: u32, s: u16) -> u64
+fn adjustment(edition: u8, value: u64, count: u32, s: u16) -> u64
     requires { ⌜ (count ≤ 100000) × (value ≤ 800000000 * count) ⌝ }
-    ensures { λ r. ⌜ r ≡ adjustmentOf s (record { value = value; count = count }) ⌝ }
+    ensures { λ r. ⌜ r ≡ adjustmentOf edition s (record { value = value; count = count }) ⌝ }
 {
     let t = s as u64;
     if value <= 2850 * t {
         return 0;
     }
     let n = count as u64;
-    near_unsigned(7 * (501 * t * n + value), 10000 * n)
+    near_unsigned(edition, 7 * (501 * t * n + value), 10000 * n)
 }
 
 // A difference raised by 800,000, so that it is not negative.
@@ -156,10 +177,11 @@ impl Chart {
         }
     }
 
-    // A reading with difference d, at the standard deviation s. Each sum is kept unsigned, as what is added less what is taken.
-    pub fn apply(self, s: u16, d: i32) -> Chart
+    // A reading with difference d, at the standard deviation s, its adjustments rounded by the edition. Each sum is kept unsigned, as what is added
+    // less what is taken.
+    pub fn apply(self, edition: u8, s: u16, d: i32) -> Chart
         requires { ⌜ Sound self × (self .readings < 100000) × Ranged d ⌝ }
-        ensures { λ r. ⌜ r ≡ appliedOf self s d ⌝ }
+        ensures { λ r. ⌜ r ≡ appliedOf self edition s d ⌝ }
     {
         let x = raised(d);
         let step = apart(x, raised(self.last));
@@ -178,8 +200,8 @@ impl Chart {
             rising: rising,
             falling: falling,
             precision: precision,
-            downward: adjustment(rising.value, rising.count, s),
-            upward: adjustment(falling.value, falling.count, s),
+            downward: adjustment(edition, rising.value, rising.count, s),
+            upward: adjustment(edition, falling.value, falling.count, s),
         }
     }
 

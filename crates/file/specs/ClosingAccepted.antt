@@ -9,25 +9,23 @@ use mir.Facts.{or-no, ltb-no}
 use mir.Syntax.{w32, w64}
 use mir.Val.{SFits}
 use lib.Dec.{T, leb, ltb, eqb}
-use lib.IntN.{ℤ, pos, negsuc, negℤ, natAbs, _*ℤ_}
+use lib.IntN.{ℤ, pos, negsuc, negℤ, natAbs}
 use lib.ListN.{length, take, length-map, length-take}
 use lib.Signed.{mag, leZ, ≤ℤ-refl}
 use Rattle.charts.specs.Tests.{if_then_else_, if-yes, if-all}
-use Rattle.charts.specs.Integers.{ints, le-leZ, abs-sfits}
-use Rattle.charts.specs.Rounding.{nearOf}
-use Rattle.charts.specs.RoundingLaws.{near-bound}
-use Rattle.calibration.specs.Pairs.{ZRanged, zRangedOf, between-answers}
-use Rattle.calibration.specs.PairLaws.{between-abs, between-fits}
-use Rattle.calibration.specs.FitLaws.{product-size}
+use Rattle.charts.specs.Integers.{le-leZ, abs-sfits}
+use Rattle.calibration.specs.Pairs.{RequirementsRanged, ZRanged, zRangedOf, between-answers}
+use Rattle.calibration.specs.PairLaws.{between-fits}
 use Rattle.calibration.specs.FitRange.{T-true, fitted-ranged}
-use Rattle.calibration.specs.ResidualLaws.{not-far, residuals-ranged}
+use Rattle.calibration.specs.ResidualLaws.{top-bound, residuals-ranged}
 use Rattle.calibration.specs.VerdictLaws.{count-above}
-use Rattle.calibration.specs.Calibration.{LineRanged, countFits, divisorOf, fitFrom, fitOf, flatOf, lineFits, residualsOf, slopeOf, slopeRangedOf, someBeyond, sumsOf}
+use Rattle.calibration.specs.Calibration.{LineRanged, countFits, divisorOf, fitFrom, fitOf, flatOf, lineFits, residualsOf, slopeOf, slopeRangedOf, someBeyond, sumsOf, topOf}
 use Rattle.calibration.specs.declared.Fitted.{Fitted}
 use Rattle.calibration.specs.declared.Tested.{Tested}
 use Rattle.calibration.specs.declared.Line.{Line}
 use Rattle.calibration.specs.declared.Pair.{Pair}
 use Rattle.calibration.specs.declared.Requirements.{Requirements}
+use Rattle.calibration.specs.declared.Standard.{Standard}
 use Rattle.records.specs.Bytes.{le16, le32, allZero, bytes16, bytes32}
 use Rattle.records.specs.Record.{Record, kind, mark, minute, signed32, signed64, field, longField, formedOf, plainOf, markLimit, fieldsEnd, rangedOf, zOf}
 use Rattle.records.specs.Kinds.{sets}
@@ -38,6 +36,7 @@ use Rattle.records.specs.Soundness.{SettingSound, Sound}
 use Rattle.records.specs.SoundnessLaws.{pairs-ranged}
 use Rattle.records.specs.declared.state.Waiting.{Waiting}
 use Rattle.records.specs.declared.state.State.{State}
+use Rattle.file.specs.Calls.{opened}
 use Rattle.file.specs.Answered.{ranOf}
 use Rattle.file.specs.FitLaws.{fit-size}
 use Rattle.file.specs.Closings.{firstRows, unsigned32, unsigned64, bytes64, calibrationRecord, annualRecord, closingOf, closingRefusal, makeOf, madeBytes}
@@ -98,28 +97,27 @@ count-back n h = ap signed32 (le32-of n (omega arith)) ∙ rw (lt-ltb n 21474836
 abbrev TopSmall : Fitted → Type 0
 TopSmall c = natAbs (c .top .0) ≤ 11000000
 
-module _ (q : Requirements) (z : ℤ) (ps : List Pair) where
-  line-top : (l : Line) → 0 < length ps → TopSmall (lineFits q ps l)
+module _ (edition : ℕ) (q : Requirements) (z : ℤ) (ps : List Pair) (Q : RequirementsRanged q) where
+  line-top : (l : Line) → 0 < length ps → TopSmall (lineFits edition q ps l)
   unfolding lineFits residualsOf
-  line-top l h = if-all TopSmall (someBeyond (q .oxygen) l ps) _ _ (λ t. omega arith) standing
+  line-top l h = if-all TopSmall (someBeyond edition (q .oxygen) l ps) _ _ (λ t. omega arith) standing
     where
-      most : ℤ
-      most = residualsOf (q .oxygen) l ps .most .0
+      most : Standard
+      most = residualsOf edition (q .oxygen) l ps .most
 
-      standing : T (not (someBeyond (q .oxygen) l ps)) → natAbs (nearOf (pos 110 *ℤ most) (pos 100)) ≤ 11000000
+      standing : T (not (someBeyond edition (q .oxygen) l ps)) → natAbs (topOf edition (q .limit) most .0) ≤ 11000000
       standing t =
-          let far = residuals-ranged (q .oxygen) l ps h (not-true (someBeyond (q .oxygen) l ps) (T-true _ t)) .most in
-          let size = product-size {m = 110} (pos 110) most (omega arith) (between-abs (not-far (residualsOf (q .oxygen) l ps .most) far)) in
-          near-bound (pos 110 *ℤ most) (pos 100) 11000000 (omega ints) (omega (arith, size))
+          let far = residuals-ranged edition (q .oxygen) l ps h (not-true (someBeyond edition (q .oxygen) l ps) (T-true _ t)) .most in
+          top-bound edition (q .limit) most far (Q .limit)
 
-  from-top : 0 < length ps → TopSmall (fitFrom q z ps (sumsOf ps))
+  from-top : 0 < length ps → TopSmall (fitFrom edition q z ps (sumsOf ps))
   unfolding fitFrom
   from-top h =
-      let flat = flatOf q ps in
+      let flat = flatOf edition q ps in
       if-all TopSmall (leZ (divisorOf flat (sumsOf ps) z) (pos 0)) _ _ (λ t. omega arith)
-      (λ t. if-all TopSmall (not (slopeRangedOf (slopeOf flat (sumsOf ps) z))) _ _ (λ u. omega arith) (λ u. line-top _ h))
+      (λ t. if-all TopSmall (not (slopeRangedOf (slopeOf edition flat (sumsOf ps) z))) _ _ (λ u. omega arith) (λ u. line-top _ h))
 
-  fit-top : TopSmall (fitOf q z ps)
+  fit-top : TopSmall (fitOf edition q z ps)
   unfolding fitOf
   fit-top =
       if-all TopSmall (not (countFits (length ps))) _ _ (λ t. omega arith)
@@ -139,7 +137,7 @@ figures : (m : ℕ) (st : State) (z : ℤ) → Sound m st → SettingSound (st .
 unfolding calibrationOf factsOf
 figures m st z S Q Z =
     if-all Figures (not (countFits (length ws))) _ _ (λ t e. absurd (omega arith))
-    (λ t. if-all Figures (not (daysFit ws)) _ _ (λ u e. absurd (omega arith)) (λ u e. (fitted-ranged q z ps (Q .requirements) Z (pairs-ranged ws (S .pairs)) few e, fit-top q z ps)))
+    (λ t. if-all Figures (not (daysFit ws)) _ _ (λ u e. absurd (omega arith)) (λ u e. (fitted-ranged (st .edition) q z ps (Q .requirements) Z (pairs-ranged ws (S .pairs)) few e, fit-top (st .edition) q z ps (Q .requirements))))
   where
     ws : List Waiting
     ws = take (st .pending) (st .pairs)
@@ -328,10 +326,13 @@ module _ (m : ℕ) (st : State) (S : Sound m st) (minute : ℕ) (z : ℤ) where
           let k = eqb-false kind 5 t in
           ap (refusalIn f) (annual-bytes f kind minute z k) ∙ accepted-annual kind first (sym (annual-row f kind minute z first k) ∙ e)
 
--- a closing that is made is accepted after the records before it
-pub made-accepted : (st : State) (bytes : List ℕ) (kind minute : ℕ) (z : ℤ) (old : List ℕ) → length (st .pairs) ≡ 30 → makeOf st bytes kind minute z (length old) .refusal ≡ 0
-    → refusalIn (factsOf (ranOf st bytes .state)) (madeBytes st bytes kind minute z old) ≡ 0
-made-accepted st bytes kind minute z old h e =
-    let M = made-passes st bytes kind minute z (length old) e in
-    ap (refusalIn (factsOf (ranOf st bytes .state))) (sym (bytes-made st bytes kind minute z old _ refl e))
-    ∙ closing-accepted 4000000000 (ranOf st bytes .state) (before-sound st bytes h (omega (arith, fit-size 0 11 (length bytes) (M .fits) .few)) (M .ready)) minute z kind (M .passes)
+-- a closing that is made is accepted after the records before it, in a block of the edition told
+pub made-accepted : (st : State) (edition : ℕ) (bytes : List ℕ) (kind minute : ℕ) (z : ℤ) (old : List ℕ) → length (st .pairs) ≡ 30
+    → makeOf st edition bytes kind minute z (length old) .refusal ≡ 0
+    → refusalIn (factsOf (ranOf (opened st edition) bytes .state)) (madeBytes st edition bytes kind minute z old) ≡ 0
+made-accepted st edition bytes kind minute z old h e =
+    let M = made-passes st edition bytes kind minute z (length old) e in
+    let s = ranOf (opened st edition) bytes .state in
+    let S = before-sound st edition bytes h (omega (arith, fit-size 0 11 (length bytes) (M .fits) .few)) (M .ready) in
+    ap (refusalIn (factsOf s)) (sym (bytes-made st edition bytes kind minute z old _ refl e))
+    ∙ closing-accepted 4000000000 s S minute z kind (M .passes)

@@ -18,16 +18,18 @@ use Rattle.records.specs.BytesLaws.{written-more, written-whole, bytes32-length
 use Rattle.records.specs.RecordLaws.{holds}
 use Rattle.records.specs.Table.{Facts, calibrationOf, annualOf, passMark, testMark}
 use Rattle.records.specs.State.{factsOf}
-use Rattle.records.specs.Steps.{Ran, ranFrom, stateRules}
+use Rattle.records.specs.Steps.{Ran}
 use Rattle.records.specs.Soundness.{SettingSound, BegunSound, Sound}
 use Rattle.records.specs.SoundnessLaws.{weaken}
 use Rattle.records.specs.declared.state.State.{State}
+use Rattle.file.specs.Blocks.{toldRefusal}
 use Rattle.file.specs.Taking.{records, recordsFit}
-use Rattle.file.specs.Calls.{readyOf}
+use Rattle.file.specs.Calls.{opened, readyOf}
+use Rattle.file.specs.FitLaws.{opened-pairs, opened-ready}
 use Rattle.file.specs.FitLaws.{ready-fit, within-none, within-ran}
 use Rattle.file.specs.CallsLaws.{records-length}
 use Rattle.file.specs.Answered.{ranOf}
-use Rattle.file.specs.Closings.{headOf, figuresOf, kept, firstRows, zFits, unsigned32, unsigned64, bytes64, calibrationRecord, annualRecord, closingOf, closingRefusal, made, closed, makeOf, madeBytes}
+use Rattle.file.specs.Closings.{headOf, figuresOf, kept, firstRows, zFits, unsigned32, unsigned64, bytes64, calibrationRecord, annualRecord, closingOf, closingRefusal, made, closed, ranBefore, makeOf, madeBytes}
 use Rattle.file.specs.declared.making.Made.{Made}
 
 -- ---- the forty bytes
@@ -230,12 +232,14 @@ kept-new n new old h = sym (if-yes (eqb n 0) _ _ (eq-eqb n 0 h))
 
 -- ---- the state that the records before it lead to
 
-pub before-sound : (st : State) (bytes : List ℕ) → length (st .pairs) ≡ 30 → length bytes ≤ 480 → readyOf st ≡ true → Sound 4000000000 (ranOf st bytes .state)
+pub before-sound : (st : State) (edition : ℕ) (bytes : List ℕ) → length (st .pairs) ≡ 30 → length bytes ≤ 480 → readyOf st ≡ true
+    → Sound 4000000000 (ranOf (opened st edition) bytes .state)
 unfolding ranOf
-before-sound st bytes h few r =
-    let F = ready-fit st r h in
+before-sound st edition bytes h few r =
+    let o = opened st edition in
+    let F = ready-fit o (opened-ready st edition ∙ r) (ap length (opened-pairs st edition) ∙ h) in
     let n = records-length (length bytes / 40) bytes in
-    weaken (omega (arith, F .few)) (within-ran (st .next) 0 st (records (length bytes / 40) bytes) (within-none st F) .sound)
+    weaken (omega (arith, F .few)) (within-ran (o .next) 0 o (records (length bytes / 40) bytes) (within-none o F) .sound)
 
 pub begun-setting : (m : ℕ) (st : State) → factsOf st .begun ≡ true → Sound m st → SettingSound (st .setting)
 unfolding factsOf
@@ -243,84 +247,108 @@ begun-setting m st b S = subst (λ (t : Bool). BegunSound t (st .setting)) b (S 
 
 -- ---- the call, gate by gate
 
-module _ (st : State) (bytes : List ℕ) (kind minute : ℕ) (z : ℤ) (size : ℕ) where
-  pub size-stops : (size ≡ 40 → ⊥) → makeOf st bytes kind minute z size ≡ made 1 255
+module _ (st : State) (edition : ℕ) (bytes : List ℕ) (kind minute : ℕ) (z : ℤ) (size : ℕ) where
+  pub size-stops : (size ≡ 40 → ⊥) → makeOf st edition bytes kind minute z size ≡ made 1 255
   unfolding makeOf
   size-stops n = rw (ne-eqb size 40 n)
 
   module _ (s : size ≡ 40) where
-    pub fit-stops : recordsFit 0 11 (length bytes) ≡ false → makeOf st bytes kind minute z size ≡ made 6 255
+    pub fit-stops : recordsFit 0 11 (length bytes) ≡ false → makeOf st edition bytes kind minute z size ≡ made 6 255
     unfolding makeOf
     fit-stops f = rw (eq-eqb size 40 s, f)
 
     module _ (f : recordsFit 0 11 (length bytes) ≡ true) where
-      pub kind-stops : (eqb kind 5 || eqb kind 6) ≡ false → makeOf st bytes kind minute z size ≡ made 6 255
+      pub kind-stops : (eqb kind 5 || eqb kind 6) ≡ false → makeOf st edition bytes kind minute z size ≡ made 6 255
       unfolding makeOf
       kind-stops k = rw (eq-eqb size 40 s, f, k)
 
       module _ (k : (eqb kind 5 || eqb kind 6) ≡ true) where
-        pub ready-stops : readyOf st ≡ false → makeOf st bytes kind minute z size ≡ made 7 255
+        pub ready-stops : readyOf st ≡ false → makeOf st edition bytes kind minute z size ≡ made 7 255
         unfolding makeOf
         ready-stops r = rw (eq-eqb size 40 s, f, k, r)
 
         module _ (r : readyOf st ≡ true) where
-          pub record-stops : (ranOf st bytes .refusal ≡ 0 → ⊥) → makeOf st bytes kind minute z size ≡ made (ranOf st bytes .refusal) (ranOf st bytes .index)
-          unfolding makeOf ranOf
-          record-stops n = rw (eq-eqb size 40 s, f, k, r, ne-eqb (ranFrom stateRules 0 st (records (length bytes / 40) bytes) .refusal) 0 n)
+          pub told-stops : (n : ℕ) → n ≡ toldRefusal (st .edition) edition → (n ≡ 0 → ⊥) → makeOf st edition bytes kind minute z size ≡ made n 255
+          unfolding makeOf
+          told-stops n g h = rw (eq-eqb size 40 s, f, k, r, sym g, ne-eqb n 0 h)
 
-          module _ (e : ranOf st bytes .refusal ≡ 0) where
-            past : makeOf st bytes kind minute z size ≡ closed (factsOf (ranOf st bytes .state)) (length bytes / 40) kind minute z
-            unfolding makeOf ranOf
-            past = rw (eq-eqb size 40 s, f, k, r, eq-eqb (ranFrom stateRules 0 st (records (length bytes / 40) bytes) .refusal) 0 e)
+          module _ (t : toldRefusal (st .edition) edition ≡ 0) where
+            pub record-stops : (ranOf (opened st edition) bytes .refusal ≡ 0 → ⊥)
+                → makeOf st edition bytes kind minute z size ≡ made (ranOf (opened st edition) bytes .refusal) (ranOf (opened st edition) bytes .index)
+            unfolding makeOf ranBefore ranOf
+            record-stops n =
+                rw (eq-eqb size 40 s, f, k, r, eq-eqb (toldRefusal (st .edition) edition) 0 t, ne-eqb (ranBefore st edition bytes .refusal) 0 n)
 
-            pub closing-stops : (n : ℕ) → n ≡ closingRefusal (factsOf (ranOf st bytes .state)) kind minute z → (n ≡ 0 → ⊥) → makeOf st bytes kind minute z size ≡ made n (length bytes / 40)
-            unfolding closed
-            closing-stops n g h = past ∙ rw (sym g, ne-eqb n 0 h)
+            module _ (e : ranOf (opened st edition) bytes .refusal ≡ 0) where
+              past : makeOf st edition bytes kind minute z size ≡ closed (factsOf (ranOf (opened st edition) bytes .state)) (length bytes / 40) kind minute z
+              unfolding makeOf ranBefore ranOf
+              past = rw (eq-eqb size 40 s, f, k, r, eq-eqb (toldRefusal (st .edition) edition) 0 t, eq-eqb (ranBefore st edition bytes .refusal) 0 e)
 
-            pub closing-made : (n : ℕ) → n ≡ closingRefusal (factsOf (ranOf st bytes .state)) kind minute z → n ≡ 0 → makeOf st bytes kind minute z size ≡ made 0 255
-            unfolding closed
-            closing-made n g h = past ∙ rw (sym g, eq-eqb n 0 h)
+              pub closing-stops : (n : ℕ) → n ≡ closingRefusal (factsOf (ranOf (opened st edition) bytes .state)) kind minute z → (n ≡ 0 → ⊥)
+                  → makeOf st edition bytes kind minute z size ≡ made n (length bytes / 40)
+              unfolding closed
+              closing-stops n g h = past ∙ rw (sym g, ne-eqb n 0 h)
+
+              pub closing-made : (n : ℕ) → n ≡ closingRefusal (factsOf (ranOf (opened st edition) bytes .state)) kind minute z → n ≡ 0
+                  → makeOf st edition bytes kind minute z size ≡ made 0 255
+              unfolding closed
+              closing-made n g h = past ∙ rw (sym g, eq-eqb n 0 h)
 
 -- what it tells that one was made
-pub record MadePasses (st : State) (bytes : List ℕ) (kind minute : ℕ) (z : ℤ) : Type 0 where
+pub record MadePasses (st : State) (edition : ℕ) (bytes : List ℕ) (kind minute : ℕ) (z : ℤ) : Type 0 where
   pub fits : recordsFit 0 11 (length bytes) ≡ true
   pub ready : readyOf st ≡ true
-  pub accepted : ranOf st bytes .refusal ≡ 0
-  pub passes : closingRefusal (factsOf (ranOf st bytes .state)) kind minute z ≡ 0
+  pub told : toldRefusal (st .edition) edition ≡ 0
+  pub accepted : ranOf (opened st edition) bytes .refusal ≡ 0
+  pub passes : closingRefusal (factsOf (ranOf (opened st edition) bytes .state)) kind minute z ≡ 0
 
-pub made-passes : (st : State) (bytes : List ℕ) (kind minute : ℕ) (z : ℤ) (size : ℕ) → makeOf st bytes kind minute z size .refusal ≡ 0 → MadePasses st bytes kind minute z
-unfolding makeOf closed ranOf
-made-passes st bytes kind minute z size e =
-    by-tests (eqb size 40) (recordsFit 0 11 (length bytes)) (eqb kind 5 || eqb kind 6) (readyOf st) (eqb (ran .refusal) 0) (eqb own 0) refl refl refl refl e
+pub made-passes : (st : State) (edition : ℕ) (bytes : List ℕ) (kind minute : ℕ) (z : ℤ) (size : ℕ) → makeOf st edition bytes kind minute z size .refusal ≡ 0
+    → MadePasses st edition bytes kind minute z
+unfolding makeOf closed ranBefore ranOf
+made-passes st edition bytes kind minute z size e =
+    by-tests (eqb size 40) (recordsFit 0 11 (length bytes)) (eqb kind 5 || eqb kind 6) (readyOf st) (eqb told 0) (eqb (ran .refusal) 0) (eqb own 0)
+    refl refl refl refl refl e
   where
+    told : ℕ
+    told = toldRefusal (st .edition) edition
+
     ran : Ran State
-    ran = ranFrom stateRules 0 st (records (length bytes / 40) bytes)
+    ran = ranBefore st edition bytes
 
     own : ℕ
     own = closingRefusal (factsOf (ran .kept)) kind minute z
 
-    by-tests : (a b c d r o : Bool) → recordsFit 0 11 (length bytes) ≡ b → readyOf st ≡ d → eqb (ran .refusal) 0 ≡ r → eqb own 0 ≡ o
+    by-tests : (a b c d t r o : Bool) → recordsFit 0 11 (length bytes) ≡ b → readyOf st ≡ d → eqb told 0 ≡ t → eqb (ran .refusal) 0 ≡ r → eqb own 0 ≡ o
         → (if not a then made 1 255
         else if not b then made 6 255
         else if not c then made 6 255
         else if not d then made 7 255
+        else if not t then made told 255
         else if not r then made (ran .refusal) (ran .index)
         else if not o then made own (length bytes / 40)
         else made 0 255) .refusal ≡ 0
-        → MadePasses st bytes kind minute z
-    by-tests false b c d r o f g h i e = absurd (omega arith)
-    by-tests true false c d r o f g h i e = absurd (omega arith)
-    by-tests true true false d r o f g h i e = absurd (omega arith)
-    by-tests true true true false r o f g h i e = absurd (omega arith)
-    by-tests true true true true true true f g h i e = record { fits = f; ready = g; accepted = eqb-true (ran .refusal) 0 h; passes = eqb-true own 0 i }
-    by-tests true true true true true false f g h i e = absurd (eqb-false own 0 i e)
-    by-tests true true true true false o f g h i e = absurd (eqb-false (ran .refusal) 0 h e)
+        → MadePasses st edition bytes kind minute z
+    by-tests false b c d t r o f g h i j e = absurd (omega arith)
+    by-tests true false c d t r o f g h i j e = absurd (omega arith)
+    by-tests true true false d t r o f g h i j e = absurd (omega arith)
+    by-tests true true true false t r o f g h i j e = absurd (omega arith)
+    by-tests true true true true false r o f g h i j e = absurd (eqb-false told 0 h e)
+    by-tests true true true true true false o f g h i j e = absurd (eqb-false (ran .refusal) 0 i e)
+    by-tests true true true true true true false f g h i j e = absurd (eqb-false own 0 j e)
+    by-tests true true true true true true true f g h i j e = record {
+      fits = f;
+      ready = g;
+      told = eqb-true told 0 h;
+      accepted = eqb-true (ran .refusal) 0 i;
+      passes = eqb-true own 0 j;
+    }
 
-module _ (st : State) (bytes : List ℕ) (kind minute : ℕ) (z : ℤ) (old : List ℕ) (x : Made) (e : makeOf st bytes kind minute z (length old) ≡ x) where
-  pub bytes-kept : (x .refusal ≡ 0 → ⊥) → old ≡ madeBytes st bytes kind minute z old
+module _ (st : State) (edition : ℕ) (bytes : List ℕ) (kind minute : ℕ) (z : ℤ) (old : List ℕ) (x : Made)
+    (e : makeOf st edition bytes kind minute z (length old) ≡ x) where
+  pub bytes-kept : (x .refusal ≡ 0 → ⊥) → old ≡ madeBytes st edition bytes kind minute z old
   unfolding madeBytes
   bytes-kept n = rw (e, ne-eqb (x .refusal) 0 n)
 
-  pub bytes-made : x .refusal ≡ 0 → closingOf (factsOf (ranOf st bytes .state)) kind minute z ≡ madeBytes st bytes kind minute z old
-  unfolding madeBytes ranOf
+  pub bytes-made : x .refusal ≡ 0 → closingOf (factsOf (ranOf (opened st edition) bytes .state)) kind minute z ≡ madeBytes st edition bytes kind minute z old
+  unfolding madeBytes ranBefore ranOf
   bytes-made n = rw (e, eq-eqb (x .refusal) 0 n)

@@ -1,5 +1,5 @@
--- Paper 01, 'Making blocks and closings': making a closing, and the rows of 'Where input is stopped' for it. Its figures are worked out from the
--- state that the records before it lead to.
+-- Paper 01, 'Making blocks and closings', and paper 02, C-12: making a closing, and the rows of 'Where input is stopped' for it. Its figures are worked
+-- out from the state that the records before it lead to, in a block of the edition told.
 use mathlib.Core.Bool.{Bool, not, _||_}
 use mathlib.Core.List.{List, [], _∷_, _++_}
 use Prim.Native.Nat.{ℕ, _-_, _/_, _%_}
@@ -16,8 +16,9 @@ use Rattle.records.specs.Table.{Facts, calibrationOf, annualOf, passMark, testM
 use Rattle.records.specs.State.{factsOf}
 use Rattle.records.specs.Steps.{Ran, ranFrom, stateRules}
 use Rattle.records.specs.declared.state.State.{State}
+use Rattle.file.specs.Blocks.{toldRefusal}
 use Rattle.file.specs.Taking.{records, recordsFit}
-use Rattle.file.specs.Calls.{readyOf}
+use Rattle.file.specs.Calls.{readyOf, opened}
 use Rattle.file.specs.declared.making.Made.{Made}
 
 -- ---- the forty bytes
@@ -82,21 +83,27 @@ closed f place kind minute z =
     if not (eqb (closingRefusal f kind minute z) 0) then made (closingRefusal f kind minute z) place
     else made 0 255
 
--- making a closing in a target of so many bytes: 1, 6 for the records or the kind, 7, the rows of the records before it, then its own
-unfoldable pub makeOf : State → List ℕ → ℕ → ℕ → ℤ → ℕ → Made
-makeOf st bytes kind minute z size =
-    let ran : Ran State = ranFrom stateRules 0 st (records (length bytes / 40) bytes) in
+-- the records before it, one after another, in a block of the edition told
+unfoldable pub ranBefore : State → ℕ → List ℕ → Ran State
+ranBefore st edition bytes = ranFrom stateRules 0 (opened st edition) (records (length bytes / 40) bytes)
+
+-- making a closing in a target of so many bytes: 1, 6 for the records or the kind, 7, 3 and 26 for the edition, the rows of the records before it, then
+-- its own
+unfoldable pub makeOf : State → ℕ → List ℕ → ℕ → ℕ → ℤ → ℕ → Made
+makeOf st edition bytes kind minute z size =
+    let ran : Ran State = ranBefore st edition bytes in
     if not (eqb size 40) then made 1 255
     else if not (recordsFit 0 11 (length bytes)) then made 6 255
     else if not (eqb kind 5 || eqb kind 6) then made 6 255
     else if not (readyOf st) then made 7 255
+    else if not (eqb (toldRefusal (st .edition) edition) 0) then made (toldRefusal (st .edition) edition) 255
     else if not (eqb (ran .refusal) 0) then made (ran .refusal) (ran .index)
     else closed (factsOf (ran .kept)) (length bytes / 40) kind minute z
 
 -- the target after it: the new closing, or all bytes as before if there is none
-unfoldable pub madeBytes : State → List ℕ → ℕ → ℕ → ℤ → List ℕ → List ℕ
-madeBytes st bytes kind minute z old =
-    if eqb (makeOf st bytes kind minute z (length old) .refusal) 0 then closingOf (factsOf (ranFrom stateRules 0 st (records (length bytes / 40) bytes) .kept)) kind minute z
+unfoldable pub madeBytes : State → ℕ → List ℕ → ℕ → ℕ → ℤ → List ℕ → List ℕ
+madeBytes st edition bytes kind minute z old =
+    if eqb (makeOf st edition bytes kind minute z (length old) .refusal) 0 then closingOf (factsOf (ranBefore st edition bytes .kept)) kind minute z
     else old
 
 -- ---- parts of a closing, as the code writes and tests them

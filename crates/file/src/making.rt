@@ -1,4 +1,4 @@
-// Making a closing (paper 01, 'Making blocks and closings').
+// Making a closing (paper 01, 'Making blocks and closings', and paper 02, C-12).
 ghost use mathlib.Core.Path.{_≡_};
 ghost use mathlib.Core.Bool.{_||_};
 ghost use Prim.Native.Nat.{_+_, _≤_};
@@ -10,6 +10,7 @@ ghost use Rattle.records.specs.Soundness.{SettingSound, Sound};
 ghost use Rattle.records.specs.State.{factsOf};
 ghost use Rattle.records.specs.Table.{annualOf, calibrationOf};
 ghost use Rattle.file.specs.Closings.{annualRecord, bytes64, calibrationRecord, closingOf, closingRefusal, figuresOf, firstRows, headOf, kept, made, madeBytes, makeOf, unsigned32, unsigned64, zFits};
+use crate::blocks;
 use crate::forming;
 use crate::taking;
 use calibration::Fitted;
@@ -195,17 +196,18 @@ fn close(st: State, kind: u8, minute: u32, z: i32, target: &mut [u8]) -> u32
     close_annual(st, minute, target)
 }
 
-// Making a closing into the target, with any state, any bytes and any target.
+// Making a closing for a block of the edition told into the target, with any state, any edition, any bytes and any target.
 pub fn make_closing(
     st: State,
+    edition: u8,
     bytes: &[u8],
     kind: u8,
     minute: u32,
     z: i32,
     target: &mut [u8],
 ) -> Made
-    ensures { λ r. ⌜ r ≡ makeOf st (now (bytes .entry)) kind minute z (length (now (target .entry))) ⌝ }
-    ensures { λ r. ⌜ now (target .exit) ≡ madeBytes st (now (bytes .entry)) kind minute z (now (target .entry)) ⌝ }
+    ensures { λ r. ⌜ r ≡ makeOf st edition (now (bytes .entry)) kind minute z (length (now (target .entry))) ⌝ }
+    ensures { λ r. ⌜ now (target .exit) ≡ madeBytes st edition (now (bytes .entry)) kind minute z (now (target .entry)) ⌝ }
 {
     if target.len() != 40 {
         return ended(1, 255);
@@ -219,7 +221,11 @@ pub fn make_closing(
     if !taking::ready(st) {
         return ended(7, 255);
     }
-    let ran = forming::run_records(st, bytes);
+    let told = blocks::told(st.edition, edition);
+    if told != 0 {
+        return ended(told as u32, 255);
+    }
+    let ran = forming::run_records(taking::open(st, edition), bytes);
     if ran.refusal != 0 {
         return ended(ran.refusal, ran.index);
     }

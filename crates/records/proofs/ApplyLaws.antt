@@ -80,11 +80,11 @@ module _ (st : State) (r : Record) where
       by-mark true e = rw (k, e)
       by-mark false e = rw (k, e, raised-again (turnsFrom (st .minute) (minute r) && judges st) (st .demand) (minute r))
 
-  pub applied-value : kind r ≡ 7 → withValue judged (mark r) (outsideBy (st .calibration) (st .setting) r) ≡ appliedTo st r
+  pub applied-value : kind r ≡ 7 → withValue judged (mark r) (outsideBy (st .edition) (st .calibration) (st .setting) r) ≡ appliedTo st r
   unfolding judgedOf appliedTo chartAfter sets reads resets pairs empties calibrates passes fails counts withValue withTally
   applied-value k = by-mark (eqb (mark r) 0) refl
     where
-      by-mark : (b : Bool) → eqb (mark r) 0 ≡ b → withValue judged (mark r) (outsideBy (st .calibration) (st .setting) r) ≡ appliedTo st r
+      by-mark : (b : Bool) → eqb (mark r) 0 ≡ b → withValue judged (mark r) (outsideBy (st .edition) (st .calibration) (st .setting) r) ≡ appliedTo st r
       by-mark true e = rw (k, e)
       by-mark false e = rw (k, e)
 

@@ -50,9 +50,10 @@ module _ (st : State) (r : Record) (w : turnsFrom (st .minute) (minute r) ≡ fa
     outside = outside;
     over = st .over;
     demand = st .demand;
+    edition = st .edition;
   }
 
-  pub value-changes : kind r ≡ 7 → mark r ≡ 0 → (o : Bool) → outsideBy (st .calibration) (st .setting) r ≡ o
+  pub value-changes : kind r ≡ 7 → mark r ≡ 0 → (o : Bool) → outsideBy (st .edition) (st .calibration) (st .setting) r ≡ o
       → changed (st .zero) (st .span) (st .total + 1) (if o then st .outside + 1 else st .outside) ≡ appliedTo st r
   unfolding appliedTo chartAfter sets reads resets pairs empties calibrates passes fails counts
   value-changes k h o q = rw (e, k, w, h, q)
@@ -62,12 +63,12 @@ module _ (st : State) (r : Record) (w : turnsFrom (st .minute) (minute r) ≡ fa
   unfolding appliedTo chartAfter sets reads resets pairs empties calibrates passes fails counts
   minute-changes k h = rw (e, k, w, ne-eqb (mark r) 0 h)
 
-  pub zero-changes : kind r ≡ 2 → mark r ≡ 0 → (c : Chart) → c ≡ appliedOf (st .zero) (st .setting .zero) (differenceOf r)
+  pub zero-changes : kind r ≡ 2 → mark r ≡ 0 → (c : Chart) → c ≡ appliedOf (st .zero) (st .edition) (st .setting .zero) (differenceOf r)
       → changed c (st .span) (st .total) (st .outside) ≡ appliedTo st r
   unfolding appliedTo chartAfter sets reads resets pairs empties calibrates passes fails counts
   zero-changes k h c q = rw (e, k, w, h, q)
 
-  pub span-changes : kind r ≡ 2 → mark r ≡ 1 → (c : Chart) → c ≡ appliedOf (st .span) (st .setting .span) (differenceOf r)
+  pub span-changes : kind r ≡ 2 → mark r ≡ 1 → (c : Chart) → c ≡ appliedOf (st .span) (st .edition) (st .setting .span) (differenceOf r)
       → changed (st .zero) c (st .total) (st .outside) ≡ appliedTo st r
   unfolding appliedTo chartAfter sets reads resets pairs empties calibrates passes fails counts
   span-changes k h c q = rw (e, k, w, h, q)

@@ -13,16 +13,16 @@ use lib.ListN.{length, take, set, replicate, length-append}
 use lib.Seq.{take-at, set-append-seam}
 use Rattle.charts.specs.Tests.{if_then_else_, if-yes, if-no}
 use Rattle.charts.specs.Charts.{blank, resetOf, appliedOf}
-use Rattle.charts.specs.ChartLaws.{afterReadings, Charted, charted}
+use Rattle.charts.specs.ChartLaws.{Reading, differences, afterReadings, charted}
 use Rattle.charts.specs.declared.Chart.{Chart}
-use Rattle.records.specs.Lists.{since, those, any, those-since}
+use Rattle.records.specs.Lists.{those-since}
 use Rattle.records.specs.Record.{Record, kind, mark, minute, settingOf, differenceOf, waitingOf, functionOf, formedOf, rangedOf}
 use Rattle.records.specs.Kinds.{Point, noSetting, atZero, atSpan, number, reads, resets, sets, pairs, empties, calibrates, passes, fails, deviationOf, weekOf, outsideBy, exceeds}
 use Rattle.records.specs.Table.{Facts, misplaced, untimely, kindRefusal, readingRefusal, chartRefusal, pairRefusal, refusalIn}
-use Rattle.records.specs.History.{History, begunIn, lastMinute, settingIn, startedIn, differencesIn, pendingIn, functionIn, lastWeek, totalIn, outsideIn, weekExceeds, weeksOver, turns, weekCalls, callsIn, oldest, firstCall, factsIn, refusalOf}
+use Rattle.records.specs.History.{Entry, History, on, begunIn, lastMinute, settingIn, startedIn, differencesIn, pendingIn, functionIn, lastWeek, totalIn, outsideIn, weekExceeds, weeksOver, turns, weekCalls, callsIn, oldest, firstCall, factsIn, refusalOf}
 use Rattle.records.specs.State.{noPair, noPairs, initialOf, factsOf, chartAfter, turnsFrom, judges, raisedOf, appliedTo}
 use Rattle.records.specs.WeekLaws.{Ordered, total-step, outside-step, weeks-step}
-use Rattle.records.specs.Agreement.{Taken, chartIn, padded, demandOf, Agrees}
+use Rattle.records.specs.Agreement.{Taken, readingOf, readingsSince, chartIn, padded, demandOf, Agrees}
 use Rattle.records.specs.declared.state.Setting.{Setting}
 use Rattle.records.specs.declared.state.Waiting.{Waiting}
 use Rattle.records.specs.declared.state.Calibration.{Calibration}
@@ -58,13 +58,19 @@ and-right : (a b : Bool) → a && b ≡ true → T b
 and-right true b e = T-of e
 and-right false b e = absurd (differ (sym e))
 
-module _ (h : History) (r : Record) (e : refusalOf h r ≡ 0) where
-  rows : (misplaced (factsIn h) r ≡ false) × (untimely (factsIn h) r ≡ false) × (kindRefusal (factsIn h) r ≡ 0)
+module _ (h : History) (x : Entry) (e : refusalOf h x ≡ 0) where
+  abbrev r : Record
+  r = x .bytes
+
+  abbrev f : Facts
+  f = factsIn (x .edition) h
+
+  rows : (misplaced f r ≡ false) × (untimely f r ≡ false) × (kindRefusal f r ≡ 0)
   unfolding refusalIn
   rows =
       let a = row 10 (not (formedOf r)) _ (omega arith) e in
-      let b = row 11 (misplaced (factsIn h) r) _ (omega arith) (a .1) in
-      let c = row 12 (untimely (factsIn h) r) _ (omega arith) (b .1) in
+      let b = row 11 (misplaced f r) _ (omega arith) (a .1) in
+      let c = row 12 (untimely f r) _ (omega arith) (b .1) in
       let d = row 13 (not (rangedOf r)) _ (omega arith) (c .1) in
       (b .0, c .0, d .1)
 
@@ -111,27 +117,35 @@ ordered (r ∷ h) t = (in-order h r (t .0), ordered h (t .1))
 
 -- ---- what a state that agrees tells the table
 
+-- the differences of readings are those of their records
+pub differences-of : (l : List Entry) → differences (map readingOf l) ≡ map (on differenceOf) l
+differences-of [] = refl
+differences-of (e ∷ l) = ap (λ (ds : List ℤ). differenceOf (e .bytes) ∷ ds) (differences-of l)
+
 -- a chart shows whether it was reset, and how many readings it has since
 chart-started : (c : Point) (h : History) → chartIn c h .started ≡ startedIn c h
 unfolding chartIn blank
 chart-started c h = go (startedIn c h)
   where
-    go : (b : Bool) → (if b then afterReadings (deviationOf c (settingIn h)) (resetOf blank) (differencesIn c h) else blank) .started ≡ b
-    go true = charted (deviationOf c (settingIn h)) blank (differencesIn c h) .started
+    rs : List Reading
+    rs = map readingOf (readingsSince c h)
+
+    go : (b : Bool) → (if b then afterReadings (deviationOf c (settingIn h)) (resetOf blank) rs else blank) .started ≡ b
+    go true = charted (deviationOf c (settingIn h)) blank rs .started
     go false = refl
 
 chart-readings : (c : Point) (h : History) → chartIn c h .readings ≡ length (differencesIn c h)
 unfolding chartIn blank differencesIn
 chart-readings c h = go (startedIn c h)
   where
-    ds : List ℤ
-    ds = map differenceOf (those (reads c) (since (resets c) h))
+    rs : List Reading
+    rs = map readingOf (readingsSince c h)
 
-    go : (b : Bool) → (if b then afterReadings (deviationOf c (settingIn h)) (resetOf blank) (if b then ds else []) else blank) .readings ≡ length (if b then ds else [])
-    go true = charted (deviationOf c (settingIn h)) blank ds .readings
+    go : (b : Bool) → (if b then afterReadings (deviationOf c (settingIn h)) (resetOf blank) rs else blank) .readings ≡ length (if b then map (on differenceOf) (readingsSince c h) else [])
+    go true = charted (deviationOf c (settingIn h)) blank rs .readings ∙ ap length (differences-of (readingsSince c h))
     go false = refl
 
-facts-same : (h : History) (st : State) → Agrees h st → factsOf st ≡ factsIn h
+facts-same : (h : History) (st : State) → Agrees h st → factsOf st ≡ factsIn (st .edition) h
 unfolding factsOf factsIn
 facts-same h st A =
     let p : take (st .pending) (st .pairs) ≡ pendingIn h = rw (A .pending, A .pairs) (take-at (pendingIn h) _ (length (pendingIn h)) refl) in
@@ -147,15 +161,15 @@ facts-same h st A =
       A .calibration,
     )
 
--- THE FIRST HALF: the state refuses a record as the history does
-pub refuses-alike : (h : History) (st : State) → Agrees h st → (r : Record) → refusalIn (factsOf st) r ≡ refusalOf h r
+-- THE FIRST HALF: the state refuses a record as the history does in a block of the state's edition
+pub refuses-alike : (h : History) (st : State) → Agrees h st → (r : Record) → refusalIn (factsOf st) r ≡ refusalOf h (record { edition = st .edition; bytes = r })
 refuses-alike h st A r = ap (λ (f : Facts). refusalIn f r) (facts-same h st A)
 
 -- ---- what an accepted record does to each field
 
-setting-kept : (h : History) (r : Record) → refusalOf h r ≡ 0 → begunIn h ≡ true → settingIn (r ∷ h) ≡ settingIn h
+setting-kept : (h : History) (r : Entry) → refusalOf h r ≡ 0 → begunIn h ≡ true → settingIn (r ∷ h) ≡ settingIn h
 unfolding settingIn
-setting-kept h r e b = if-no (sets r) (settingOf r) (settingIn h) (set-first h r e b)
+setting-kept h r e b = if-no (sets (r .bytes)) (settingOf (r .bytes)) (settingIn h) (set-first h r e b)
 
 -- a setting is no reading and no reset
 other-kind : (k a b : ℕ) (c : Bool) → eqb k a ≡ true → eqb a b ≡ false → eqb k b && c ≡ false
@@ -169,25 +183,25 @@ unreset : (c : Point) (r : Record) → sets r ≡ true → resets c r ≡ false
 unfolding sets resets
 unreset c r s = other-kind (kind r) 1 3 (eqb (mark r) (number c)) s refl
 
-chart-step : (c : Point) (h : History) (r : Record) → refusalOf h r ≡ 0 → chartAfter c (settingIn h) r (chartIn c h) ≡ chartIn c (r ∷ h)
-unfolding chartAfter chartIn differencesIn afterReadings resetOf
+chart-step : (c : Point) (h : History) (r : Entry) → refusalOf h r ≡ 0 → chartAfter (r .edition) c (settingIn h) (r .bytes) (chartIn c h) ≡ chartIn c (r ∷ h)
+unfolding chartAfter chartIn afterReadings resetOf
 chart-step c [] r e =
     let s = first-sets [] r e refl in
-    rw (unread c r s, unreset c r s)
+    rw (unread c (r .bytes) s, unreset c (r .bytes) s)
 chart-step c (q ∷ h) r e =
-    rw (setting-kept (q ∷ h) r e refl, those-since (reads c) (resets c) r (q ∷ h)) (go (resets c r) (reads c r) (startedIn c (q ∷ h)) (read-started (q ∷ h) r e c))
+    rw (setting-kept (q ∷ h) r e refl, those-since (on (reads c)) (on (resets c)) r (q ∷ h)) (go (resets c (r .bytes)) (reads c (r .bytes)) (startedIn c (q ∷ h)) (read-started (q ∷ h) r e c))
   where
-    l : List Record
-    l = those (reads c) (since (resets c) (q ∷ h))
+    l : List Entry
+    l = readingsSince c (q ∷ h)
 
     s : ℕ
     s = deviationOf c (settingIn (q ∷ h))
 
     go : (a b t : Bool) → (b ≡ true → t ≡ true)
-        → (if a then resetOf (if t then afterReadings s (resetOf blank) (if t then map differenceOf l else []) else blank)
-        else if b then appliedOf (if t then afterReadings s (resetOf blank) (if t then map differenceOf l else []) else blank) s (differenceOf r)
-        else if t then afterReadings s (resetOf blank) (if t then map differenceOf l else []) else blank)
-        ≡ (if (if a then true else t) then afterReadings s (resetOf blank) (if (if a then true else t) then map differenceOf (if a then [] else if b then r ∷ l else l) else []) else blank)
+        → (if a then resetOf (if t then afterReadings s (resetOf blank) (map readingOf l) else blank)
+        else if b then appliedOf (if t then afterReadings s (resetOf blank) (map readingOf l) else blank) (r .edition) s (differenceOf (r .bytes))
+        else if t then afterReadings s (resetOf blank) (map readingOf l) else blank)
+        ≡ (if (if a then true else t) then afterReadings s (resetOf blank) (map readingOf (if a then [] else if b then r ∷ l else l)) else blank)
     go true b t f = refl
     go false true true f = refl
     go false true false f = absurd (differ (sym (f refl)))
@@ -203,26 +217,26 @@ pad-one ws w l =
     rw (e, length-append ws (w ∷ []))
     (set-append-seam ws noPair (replicate (30 - (length ws + 1)) noPair) w ∙ sym (append-assoc ws (w ∷ []) (replicate (30 - (length ws + 1)) noPair)))
 
-pending-step : (h : History) (r : Record)
-    → (if empties r then 0 else if pairs r then length (pendingIn h) + 1 else length (pendingIn h)) ≡ length (pendingIn (r ∷ h))
+pending-step : (h : History) (r : Entry)
+    → (if empties (r .bytes) then 0 else if pairs (r .bytes) then length (pendingIn h) + 1 else length (pendingIn h)) ≡ length (pendingIn (r ∷ h))
 unfolding pendingIn
-pending-step h r = go (empties r) (pairs r)
+pending-step h r = go (empties (r .bytes)) (pairs (r .bytes))
   where
-    go : (a b : Bool) → (if a then 0 else if b then length (pendingIn h) + 1 else length (pendingIn h)) ≡ length (if a then [] else if b then pendingIn h ++ (waitingOf r ∷ []) else pendingIn h)
+    go : (a b : Bool) → (if a then 0 else if b then length (pendingIn h) + 1 else length (pendingIn h)) ≡ length (if a then [] else if b then pendingIn h ++ (waitingOf (r .bytes) ∷ []) else pendingIn h)
     go true b = refl
-    go false true = sym (length-append (pendingIn h) (waitingOf r ∷ []))
+    go false true = sym (length-append (pendingIn h) (waitingOf (r .bytes) ∷ []))
     go false false = refl
 
-pairs-step : (h : History) (r : Record) → refusalOf h r ≡ 0
-    → (if empties r then noPairs else if pairs r then set (padded (pendingIn h)) (length (pendingIn h)) (waitingOf r) else padded (pendingIn h)) ≡ padded (pendingIn (r ∷ h))
+pairs-step : (h : History) (r : Entry) → refusalOf h r ≡ 0
+    → (if empties (r .bytes) then noPairs else if pairs (r .bytes) then set (padded (pendingIn h)) (length (pendingIn h)) (waitingOf (r .bytes)) else padded (pendingIn h)) ≡ padded (pendingIn (r ∷ h))
 unfolding pendingIn noPairs
-pairs-step h r e = go (empties r) (pairs r) (pair-fits h r e)
+pairs-step h r e = go (empties (r .bytes)) (pairs (r .bytes)) (pair-fits h r e)
   where
     go : (a b : Bool) → (b ≡ true → length (pendingIn h) < 30)
-        → (if a then replicate 30 noPair else if b then set (padded (pendingIn h)) (length (pendingIn h)) (waitingOf r) else padded (pendingIn h))
-        ≡ padded (if a then [] else if b then pendingIn h ++ (waitingOf r ∷ []) else pendingIn h)
+        → (if a then replicate 30 noPair else if b then set (padded (pendingIn h)) (length (pendingIn h)) (waitingOf (r .bytes)) else padded (pendingIn h))
+        ≡ padded (if a then [] else if b then pendingIn h ++ (waitingOf (r .bytes) ∷ []) else pendingIn h)
     go true b f = refl
-    go false true f = pad-one (pendingIn h) (waitingOf r) (f refl)
+    go false true f = pad-one (pendingIn h) (waitingOf (r .bytes)) (f refl)
     go false false f = refl
 
 -- ---- the calls
@@ -240,13 +254,13 @@ unfolding raisedOf
 raised-twice Quiet m = refl
 raised-twice (Since x) m = refl
 
-demand-step : (h : History) (r : Record)
-    → (if calibrates r then Quiet else if fails r || weekCalls h r then raisedOf (demandOf (firstCall h)) (minute r) else demandOf (firstCall h)) ≡ demandOf (firstCall (r ∷ h))
+demand-step : (h : History) (r : Entry)
+    → (if calibrates (r .bytes) then Quiet else if fails (r .bytes) || weekCalls h r then raisedOf (demandOf (firstCall h)) (minute (r .bytes)) else demandOf (firstCall h)) ≡ demandOf (firstCall (r ∷ h))
 unfolding firstCall callsIn
-demand-step h r = go (calibrates r) (fails r) (weekCalls h r)
+demand-step h r = go (calibrates (r .bytes)) (fails (r .bytes)) (weekCalls h r)
   where
     m : ℕ
-    m = minute r
+    m = minute (r .bytes)
 
     ms : List ℕ
     ms = callsIn h
@@ -260,34 +274,34 @@ demand-step h r = go (calibrates r) (fails r) (weekCalls h r)
     go false false true = sym (raised-first ms m)
     go false false false = refl
 
-setting-step : (h : History) (r : Record) → (if sets r then settingOf r else settingIn h) ≡ settingIn (r ∷ h)
+setting-step : (h : History) (r : Entry) → (if sets (r .bytes) then settingOf (r .bytes) else settingIn h) ≡ settingIn (r ∷ h)
 unfolding settingIn
 setting-step h r = refl
 
-function-step : (h : History) (r : Record) → (if calibrates r then InForce (functionOf r) else functionIn h) ≡ functionIn (r ∷ h)
+function-step : (h : History) (r : Entry) → (if calibrates (r .bytes) then InForce (functionOf (r .bytes)) else functionIn h) ≡ functionIn (r ∷ h)
 unfolding functionIn
 function-step h r = refl
 
-judged-step : (h : History) (r : Record) (st : State) → Agrees h st → turnsFrom (st .minute) (minute r) && judges st ≡ weekCalls h r
+judged-step : (h : History) (r : Entry) (st : State) → Agrees h st → turnsFrom (st .minute) (minute (r .bytes)) && judges st ≡ weekCalls h r
 unfolding judges weekCalls
 judged-step h r st A = rw (A .minute, A .outside, A .total, A .over)
 
 -- ---- all fields at once
 
--- THE SECOND HALF: where the record is accepted, the state after it agrees with the longer history
-pub agrees-after : (h : History) (st : State) → Taken h → Agrees h st → (r : Record) → refusalOf h r ≡ 0 → Agrees (r ∷ h) (appliedTo st r)
+-- THE SECOND HALF: where a record of the state's edition is accepted, the state after it agrees with the longer history
+pub agrees-after : (h : History) (st : State) → Taken h → Agrees h st → (r : Entry) → st .edition ≡ r .edition → refusalOf h r ≡ 0 → Agrees (r ∷ h) (appliedTo st (r .bytes))
 unfolding appliedTo
-agrees-after h st t A r e = record {
+agrees-after h st t A r d e = record {
   begun = refl;
   minute = refl;
   setting = settings;
-  zero = rw (A .zero, A .setting) (chart-step atZero h r e);
-  span = rw (A .span, A .setting) (chart-step atSpan h r e);
+  zero = rw (A .zero, A .setting, d) (chart-step atZero h r e);
+  span = rw (A .span, A .setting, d) (chart-step atSpan h r e);
   pending = rw (A .pending) (pending-step h r);
   pairs = rw (A .pairs, A .pending) (pairs-step h r e);
   calibration = functions;
   total = rw (A .total, A .minute, add-one) (sym (total-step r h o));
-  outside = rw (A .outside, A .minute, A .calibration, A .setting, add-one) (sym (outside-step r h o));
+  outside = rw (A .outside, A .minute, A .calibration, A .setting, d, add-one) (sym (outside-step r h o));
   over = rw (A .over, A .outside, A .total, A .minute, add-one) (sym (weeks-step r h o));
   demand = demands;
 }
@@ -295,16 +309,16 @@ agrees-after h st t A r e = record {
     o : Ordered (r ∷ h)
     o = (in-order h r e, ordered h t)
 
-    settings : (if sets r then settingOf r else st .setting) ≡ settingIn (r ∷ h)
+    settings : (if sets (r .bytes) then settingOf (r .bytes) else st .setting) ≡ settingIn (r ∷ h)
     settings = rw (A .setting) (setting-step h r)
 
-    functions : (if calibrates r then InForce (functionOf r) else st .calibration) ≡ functionIn (r ∷ h)
+    functions : (if calibrates (r .bytes) then InForce (functionOf (r .bytes)) else st .calibration) ≡ functionIn (r ∷ h)
     functions = rw (A .calibration) (function-step h r)
 
-    calls : turnsFrom (st .minute) (minute r) && judges st ≡ weekCalls h r
+    calls : turnsFrom (st .minute) (minute (r .bytes)) && judges st ≡ weekCalls h r
     calls = judged-step h r st A
 
-    demands : (if calibrates r then Quiet else if fails r || turnsFrom (st .minute) (minute r) && judges st then raisedOf (st .demand) (minute r) else st .demand) ≡ demandOf (firstCall (r ∷ h))
+    demands : (if calibrates (r .bytes) then Quiet else if fails (r .bytes) || turnsFrom (st .minute) (minute (r .bytes)) && judges st then raisedOf (st .demand) (minute (r .bytes)) else st .demand) ≡ demandOf (firstCall (r ∷ h))
     demands = rw (calls, A .demand) (demand-step h r)
 
 -- ---- the beginning, and an initial state's agreement with the empty history

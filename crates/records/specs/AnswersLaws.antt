@@ -6,18 +6,17 @@ use mathlib.Core.Option.{Option, none, some}
 use Prim.Native.Nat.{ℕ, _-_, _≤_}
 use native.Mathlib.Omega.{arith}
 use lib.Dec.{T, leb}
-use lib.IntN.{ℤ}
 use Rattle.charts.specs.Tests.{if_then_else_, Answers, answers-not, answers-and, answers-le, answers-as}
 use Rattle.charts.specs.Charts.{blank, resetOf, alarmsOf}
 use Rattle.charts.specs.Runs.{Alarm, rising, falling, precision, Stands}
-use Rattle.charts.specs.ChartLaws.{afterReadings, alarmOf, alarms-after, blank-answers}
+use Rattle.charts.specs.ChartLaws.{Reading, afterReadings, alarmOf, alarms-after, blank-answers}
 use Rattle.charts.specs.declared.Alarms.{Alarms}
 use Rattle.charts.specs.declared.Chart.{Chart}
-use Rattle.records.specs.Kinds.{Point, atZero, atSpan, reads, resets, deviationOf}
-use Rattle.records.specs.Lists.{since, those}
-use Rattle.records.specs.Record.{Record, differenceOf}
-use Rattle.records.specs.History.{History, lastMinute, settingIn, startedIn, differencesIn, functionIn, firstCall, AlarmStands, minuteOf, Recent, Usable}
-use Rattle.records.specs.Agreement.{chartIn, demandOf, Agrees}
+use Rattle.records.specs.Kinds.{Point, atZero, atSpan, deviationOf}
+use Rattle.records.specs.Record.{differenceOf}
+use Rattle.records.specs.History.{History, on, lastMinute, settingIn, startedIn, differencesIn, functionIn, firstCall, AlarmStands, minuteOf, Recent, Usable}
+use Rattle.records.specs.Agreement.{readingOf, readingsSince, chartIn, demandOf, Agrees}
+use Rattle.records.specs.AgreementLaws.{differences-of}
 use Rattle.records.specs.Answers.{zeroAlarms, spanAlarms, silent, youngOf, recentOf, usableOf}
 use Rattle.records.specs.declared.state.Calibration.{Calibration}
 use Rattle.records.specs.declared.state.Calibration.the-variants.{Absent, InForce}
@@ -36,11 +35,11 @@ chart-answers c a h = go (startedIn c h)
     s : ℕ
     s = deviationOf c (settingIn h)
 
-    ds : List ℤ
-    ds = map differenceOf (those (reads c) (since (resets c) h))
+    rs : List Reading
+    rs = map readingOf (readingsSince c h)
 
-    go : (b : Bool) → Answers (alarmOf a (alarmsOf (if b then afterReadings s (resetOf blank) (if b then ds else []) else blank) s)) (Stands a s (if b then ds else []))
-    go true = alarms-after a s blank ds
+    go : (b : Bool) → Answers (alarmOf a (alarmsOf (if b then afterReadings s (resetOf blank) rs else blank) s)) (Stands a s (if b then map (on differenceOf) (readingsSince c h) else []))
+    go true = rw (differences-of (readingsSince c h)) at (alarms-after a s blank rs)
     go false = blank-answers a s
 
 -- ALARMS: each of the six, answered from the state, stands exactly if some run of the history's readings says so

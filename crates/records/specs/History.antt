@@ -1,6 +1,6 @@
--- What the accepted records say, and nothing else: paper 01, 'Charts', 'Calibration', 'Weeks and calls (6.4.4)' and 'Usable', paper 02, C-11, and the
--- mission's statement 3.
--- A history is the list of accepted records, newest first, so that "since the last" is plain recursion.
+-- What the accepted records say, and nothing else: paper 01, 'Charts', 'Calibration', 'Weeks and calls (6.4.4)' and 'Usable', paper 02, C-11 and C-12,
+-- and the mission's statement 3.
+-- A history is the list of accepted records, each with the edition of its block, newest first, so that "since the last" is plain recursion.
 use mathlib.Core.Path.{_≡_}
 use mathlib.Core.Bool.{Bool, true, false, not, _&&_, _||_}
 use mathlib.Core.List.{List, [], _∷_, _++_, map}
@@ -21,28 +21,37 @@ use Rattle.records.specs.declared.state.Function.{Function}
 use Rattle.records.specs.declared.state.Calibration.{Calibration}
 use Rattle.records.specs.declared.state.Calibration.the-variants.{Absent, InForce}
 
+-- an accepted record, and beside it the edition of its block (paper 02, C-12)
+pub record Entry : Type 0 where
+  pub edition : ℕ
+  pub bytes : Record
+
 abbrev pub History : Type 0
-History = List Record
+History = List Entry
+
+-- what is said of a record, said of its entry
+abbrev pub on : {B : Type 0} → (Record → B) → Entry → B
+on f e = f (e .bytes)
 
 -- ---- the setting and the time
 
 unfoldable pub settingIn : History → Setting
 settingIn [] = noSetting
-settingIn (r ∷ h) = if sets r then settingOf r else settingIn h
+settingIn (r ∷ h) = if sets (r .bytes) then settingOf (r .bytes) else settingIn h
 
 -- the last record's minute, 0 before the first
 abbrev pub lastMinute : History → ℕ
 lastMinute [] = 0
-lastMinute (r ∷ h) = minute r
+lastMinute (r ∷ h) = minute (r .bytes)
 
 -- ---- charts
 
 abbrev pub startedIn : Point → History → Bool
-startedIn c h = any (resets c) h
+startedIn c h = any (on (resets c)) h
 
 -- the differences of a chart's readings after its last reset, newest first; with no reset there are none
 unfoldable pub differencesIn : Point → History → List ℤ
-differencesIn c h = if startedIn c h then map differenceOf (those (reads c) (since (resets c) h)) else []
+differencesIn c h = if startedIn c h then map (on differenceOf) (those (on (reads c)) (since (on (resets c)) h)) else []
 
 -- an alarm of a chart: some run of its readings says so
 abbrev pub AlarmStands : Point → Alarm → History → Type 0
@@ -54,29 +63,32 @@ AlarmStands c a h = Stands a (deviationOf c (settingIn h)) (differencesIn c h)
 unfoldable pub pendingIn : History → List Waiting
 pendingIn [] = []
 pendingIn (r ∷ h) =
-    if empties r then []
-    else if pairs r then pendingIn h ++ (waitingOf r ∷ [])
+    if empties (r .bytes) then []
+    else if pairs (r .bytes) then pendingIn h ++ (waitingOf (r .bytes) ∷ [])
     else pendingIn h
 
 -- the newest passed calibration, with its stored figures
 unfoldable pub functionIn : History → Calibration
 functionIn [] = Absent
-functionIn (r ∷ h) = if calibrates r then InForce (functionOf r) else functionIn h
+functionIn (r ∷ h) = if calibrates (r .bytes) then InForce (functionOf (r .bytes)) else functionIn h
 
 -- ---- weeks
 
+abbrev pub ownWeek : Entry → ℕ
+ownWeek r = weekOf (minute (r .bytes))
+
 -- of how many records of the period p holds, the period being what came after the last passed closing; p may look at the records before
-abbrev pub tally : (History → Record → Bool) → History → ℕ
+abbrev pub tally : (History → Entry → Bool) → History → ℕ
 tally p [] = 0
-tally p (r ∷ h) = if passes r then 0 else if p h r then suc (tally p h) else tally p h
+tally p (r ∷ h) = if passes (r .bytes) then 0 else if p h r then suc (tally p h) else tally p h
 
 -- a value that counts, of week w
-abbrev pub valueOfWeek : ℕ → History → Record → Bool
-valueOfWeek w h r = counts r && eqb (weekOf (minute r)) w
+abbrev pub valueOfWeek : ℕ → History → Entry → Bool
+valueOfWeek w h r = counts (r .bytes) && eqb (ownWeek r) w
 
 -- such a value that was outside when it was applied
-abbrev pub outsideOfWeek : ℕ → History → Record → Bool
-outsideOfWeek w h r = valueOfWeek w h r && outsideBy (functionIn h) (settingIn h) r
+abbrev pub outsideOfWeek : ℕ → History → Entry → Bool
+outsideOfWeek w h r = valueOfWeek w h r && outsideBy (r .edition) (functionIn h) (settingIn h) (r .bytes)
 
 unfoldable pub totalIn : ℕ → History → ℕ
 totalIn w h = tally (valueOfWeek w) h
@@ -104,19 +116,19 @@ weeksOver h = weeksBelow (weekExceeds 5 h) (lastWeek h)
 -- ---- calls for a new calibration
 
 -- r is of a later week than the records before it
-abbrev pub turns : History → Record → Bool
-turns h r = ltb (lastWeek h) (weekOf (minute r))
+abbrev pub turns : History → Entry → Bool
+turns h r = ltb (lastWeek h) (ownWeek r)
 
 -- r is of a later week, and the week of the last record, judged on r, raises a call: over 40 percent, or the sixth of its period over 5 percent.
-unfoldable pub weekCalls : History → Record → Bool
+unfoldable pub weekCalls : History → Entry → Bool
 weekCalls h r = turns h r && (weekExceeds 40 h (lastWeek h) || weekExceeds 5 h (lastWeek h) && eqb (weeksOver h) 5)
 
 -- the minutes of the calls since the last passed calibration, newest first: of a record's own two, its failed closing is newer than the week judged on it
 unfoldable pub callsIn : History → List ℕ
 callsIn [] = []
 callsIn (r ∷ h) =
-    if calibrates r then []
-    else (if fails r then minute r ∷ [] else []) ++ (if weekCalls h r then minute r ∷ [] else []) ++ callsIn h
+    if calibrates (r .bytes) then []
+    else (if fails (r .bytes) then minute (r .bytes) ∷ [] else []) ++ (if weekCalls h r then minute (r .bytes) ∷ [] else []) ++ callsIn h
 
 -- the last of a list
 abbrev pub oldest : List ℕ → Option ℕ
@@ -152,8 +164,9 @@ abbrev pub begunIn : History → Bool
 begunIn [] = false
 begunIn (r ∷ h) = true
 
-unfoldable pub factsIn : History → Facts
-factsIn h = record {
+-- the facts for a next record, in a block of some edition
+unfoldable pub factsIn : ℕ → History → Facts
+factsIn edition h = record {
   begun = begunIn h;
   minute = lastMinute h;
   setting = settingIn h;
@@ -163,8 +176,9 @@ factsIn h = record {
   spanReadings = length (differencesIn atSpan h);
   pending = pendingIn h;
   calibration = functionIn h;
+  edition = edition;
 }
 
 -- the refusal of a next record, 0 for none
-abbrev pub refusalOf : History → Record → ℕ
-refusalOf h r = refusalIn (factsIn h) r
+abbrev pub refusalOf : History → Entry → ℕ
+refusalOf h r = refusalIn (factsIn (r .edition) h) (r .bytes)

@@ -1,4 +1,4 @@
--- Paper 01, 'Records', 'Weeks and calls (6.4.4)', and paper 02, C-11: which records do what, and when a value is outside.
+-- Paper 01, 'Records', 'Weeks and calls (6.4.4)', and paper 02, C-11 and C-12: which records do what, and when a value is outside.
 use mathlib.Core.Bool.{Bool, true, false, not, _&&_, _||_}
 use Prim.Native.Nat.{ℕ, _*_, _/_}
 use lib.Dec.{eqb, ltb}
@@ -82,12 +82,12 @@ responseOf s = if eqb (s .response) 0 then 7 else s .response
 unfoldable pub lineOf : Function → Line
 lineOf f = record { slope = f .slope; intercept = f .intercept }
 
--- A value lies outside the range of the function in force: its c is negative or exceeds the top. Without a function row 19 stops it, so that
--- the first line is never asked.
-unfoldable pub outsideBy : Calibration → Setting → Record → Bool
-outsideBy Absent s r = false
-outsideBy (InForce f) s r =
-    let c : Standard = valueOf (s .requirements .oxygen) (lineOf f) (valueConditions r) (signalOf r) in
+-- A value lies outside the range of the function in force: its c, rounded by the edition of the value's own block, is negative or exceeds the top as it
+-- is stored. Without a function row 19 stops it, so that the first line is never asked.
+unfoldable pub outsideBy : ℕ → Calibration → Setting → Record → Bool
+outsideBy edition Absent s r = false
+outsideBy edition (InForce f) s r =
+    let c : Standard = valueOf edition (s .requirements .oxygen) (lineOf f) (valueConditions r) (signalOf r) in
     ltZ (c .0) (pos 0) || ltZ (f .top .0) (c .0)
 
 -- more than so many percent are outside

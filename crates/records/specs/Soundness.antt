@@ -1,5 +1,5 @@
 -- The range in which a state's arithmetic fits its fields: the code's own, with no sentence of paper 01. Every state that calls leave is in it,
--- and others may be. `most` bounds what is counted record by record: a state that has taken n blocks is sound for 12·n.
+-- and others may be. The edition may be any number, since none overflows anything (paper 02, C-12). `most` bounds what is counted record by record: a state that has taken n blocks is sound for 12·n.
 use mathlib.Core.Path.{_≡_}
 use mathlib.Core.Bool.{Bool, true, false, not, _&&_, _||_}
 use mathlib.Core.List.{List, [], _∷_, map}

@@ -76,11 +76,11 @@ applied-places st r h =
 
 -- ---- the charts
 
-chart-sound : (c : Point) (s : Setting) (r : Record) (k : Chart) → C.Sound k → (T (reads c r) → (k .readings < 100000) × C.Ranged (differenceOf r)) → C.Sound (chartAfter c s r k)
+chart-sound : (edition : ℕ) (c : Point) (s : Setting) (r : Record) (k : Chart) → C.Sound k → (T (reads c r) → (k .readings < 100000) × C.Ranged (differenceOf r)) → C.Sound (chartAfter edition c s r k)
 unfolding chartAfter
-chart-sound c s r k S fits =
+chart-sound edition c s r k S fits =
     if-all C.Sound (resets c r) _ _ (λ t. reset-sound k)
-    (λ t. if-all C.Sound (reads c r) _ _ (λ u. reading-sound k (deviationOf c s) (differenceOf r) S (fits u .0) (fits u .1)) (λ u. S))
+    (λ t. if-all C.Sound (reads c r) _ _ (λ u. reading-sound k edition (deviationOf c s) (differenceOf r) S (fits u .0) (fits u .1)) (λ u. S))
 
 -- ---- the setting
 
@@ -181,7 +181,7 @@ module _ (m : ℕ) (st : State) (r : Record) (S : Sound m st) (A : Accepted (fac
           let few : length (map pairOfWaiting ws) ≤ 30 = omega (arith, S .pending, length-map ws pairOfWaiting, length-take (st .pending) (st .pairs)) in
           let Q = setting-known st r (A .placed) (rw k tt) (S .setting) in
           rw (stored-line _ r (P .stores))
-          (fitted-ranged (st .setting .requirements) (zOf r) (map pairOfWaiting ws) (Q .requirements) (z-field r (z-ranged r (A .ranged) k)) (pairs-ranged ws (S .pairs)) few (P .fits))
+          (fitted-ranged (st .edition) (st .setting .requirements) (zOf r) (map pairOfWaiting ws) (Q .requirements) (z-field r (z-ranged r (A .ranged) k)) (pairs-ranged ws (S .pairs)) few (P .fits))
 
 pub applied-sound : (m : ℕ) (st : State) (r : Record) → length (st .pairs) ≡ 30 → Sound m st → refusalIn (factsOf st) r ≡ 0 → Sound (m + 1) (appliedTo st r)
 unfolding appliedTo
@@ -191,12 +191,12 @@ applied-sound m st r h S e =
     record {
       minute = A .until;
       setting = setting-after st r A (S .setting);
-      zero = chart-sound atZero (st .setting) r (st .zero) (S .zero) (zero-fits st r A);
-      span = chart-sound atSpan (st .setting) r (st .span) (S .span) (span-fits st r A);
+      zero = chart-sound (st .edition) atZero (st .setting) r (st .zero) (S .zero) (zero-fits st r A);
+      span = chart-sound (st .edition) atSpan (st .setting) r (st .span) (S .span) (span-fits st r A);
       pending = pending-after st r A h (S .pending);
       pairs = kept-sound (empties r) (pairs r) (st .pending) (st .pairs) (waitingOf r) (S .pairs) (waiting-after st r A);
       calibration = calibration-after m st r S A;
       total = counted (passes r) turn (counts r) (st .total) m (S .total);
-      outside = counted (passes r) turn (counts r && outsideBy (st .calibration) (st .setting) r) (st .outside) m (S .outside);
+      outside = counted (passes r) turn (counts r && outsideBy (st .edition) (st .calibration) (st .setting) r) (st .outside) m (S .outside);
       over = counted (passes r) false (turn && exceeds 5 (st .outside) (st .total)) (st .over) m (S .over);
     }

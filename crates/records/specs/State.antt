@@ -1,4 +1,5 @@
--- The state (paper 01: the standing): its beginning, its refusal of a record, and what an accepted record makes of it.
+-- The state (paper 01: the standing): its beginning, its refusal of a record, and what an accepted record makes of it. Its edition (paper 02, C-12) is
+-- that of the block in which the next record stands, and between blocks that of the last one: 0 before the first, by which edition 1 rounds too.
 use mathlib.Core.Bool.{Bool, true, false, not, _&&_, _||_}
 use mathlib.Core.List.{List, [], _∷_}
 use Prim.Native.Nat.{ℕ, _+_, _*_}
@@ -48,6 +49,7 @@ initialOf analyser = record {
   outside = 0;
   over = 0;
   demand = Quiet;
+  edition = 0;
 }
 
 -- ---- the refusal of a record
@@ -63,15 +65,16 @@ factsOf st = record {
   spanReadings = st .span .readings;
   pending = take (st .pending) (st .pairs);
   calibration = st .calibration;
+  edition = st .edition;
 }
 
 -- ---- an accepted record
 
--- what a record does to a chart
-unfoldable pub chartAfter : Point → Setting → Record → Chart → Chart
-chartAfter c s r k =
+-- what a record of a block of some edition does to a chart
+unfoldable pub chartAfter : ℕ → Point → Setting → Record → Chart → Chart
+chartAfter edition c s r k =
     if resets c r then resetOf k
-    else if reads c r then appliedOf k (deviationOf c s) (differenceOf r)
+    else if reads c r then appliedOf k edition (deviationOf c s) (differenceOf r)
     else k
 
 -- the record is of a later week than the last one
@@ -99,15 +102,16 @@ appliedTo st r =
       begun = true;
       minute = minute r;
       setting = if sets r then settingOf r else st .setting;
-      zero = chartAfter atZero (st .setting) r (st .zero);
-      span = chartAfter atSpan (st .setting) r (st .span);
+      zero = chartAfter (st .edition) atZero (st .setting) r (st .zero);
+      span = chartAfter (st .edition) atSpan (st .setting) r (st .span);
       pending = if empties r then 0 else if pairs r then st .pending + 1 else st .pending;
       pairs = if empties r then noPairs else if pairs r then set (st .pairs) (st .pending) (waitingOf r) else st .pairs;
       calibration = if calibrates r then InForce (functionOf r) else st .calibration;
       total = if passes r then 0 else if counts r then total + 1 else total;
-      outside = if passes r then 0 else if counts r && outsideBy (st .calibration) (st .setting) r then outside + 1 else outside;
+      outside = if passes r then 0 else if counts r && outsideBy (st .edition) (st .calibration) (st .setting) r then outside + 1 else outside;
       over = if passes r then 0 else if turn && exceeds 5 (st .outside) (st .total) then st .over + 1 else st .over;
       demand = if calibrates r then Quiet else if fails r || turn && judges st then raisedOf (st .demand) (minute r) else st .demand;
+      edition = st .edition;
     }
 
 -- one record: refused, with the state as it was, or applied

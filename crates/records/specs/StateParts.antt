@@ -20,7 +20,7 @@ use Rattle.records.specs.declared.state.State.{State}
 
 -- the state with a part of it changed
 abbrev withCharts : State → Chart → Chart → State
-withCharts st zero span = record { analyser = st .analyser; next = st .next; begun = st .begun; minute = st .minute; setting = st .setting; zero = zero; span = span; pending = st .pending; pairs = st .pairs; calibration = st .calibration; total = st .total; outside = st .outside; over = st .over; demand = st .demand }
+withCharts st zero span = record { analyser = st .analyser; next = st .next; begun = st .begun; minute = st .minute; setting = st .setting; zero = zero; span = span; pending = st .pending; pairs = st .pairs; calibration = st .calibration; total = st .total; outside = st .outside; over = st .over; demand = st .demand; edition = st .edition }
 
 unfoldable pub withZero : State → Chart → State
 withZero st c = withCharts st c (st .span)
@@ -29,10 +29,10 @@ unfoldable pub withSpan : State → Chart → State
 withSpan st c = withCharts st (st .zero) c
 
 unfoldable pub withSetting : State → Setting → State
-withSetting st s = record { analyser = st .analyser; next = st .next; begun = st .begun; minute = st .minute; setting = s; zero = st .zero; span = st .span; pending = st .pending; pairs = st .pairs; calibration = st .calibration; total = st .total; outside = st .outside; over = st .over; demand = st .demand }
+withSetting st s = record { analyser = st .analyser; next = st .next; begun = st .begun; minute = st .minute; setting = s; zero = st .zero; span = st .span; pending = st .pending; pairs = st .pairs; calibration = st .calibration; total = st .total; outside = st .outside; over = st .over; demand = st .demand; edition = st .edition }
 
 abbrev withPairs : State → ℕ → List Waiting → State
-withPairs st n ws = record { analyser = st .analyser; next = st .next; begun = st .begun; minute = st .minute; setting = st .setting; zero = st .zero; span = st .span; pending = n; pairs = ws; calibration = st .calibration; total = st .total; outside = st .outside; over = st .over; demand = st .demand }
+withPairs st n ws = record { analyser = st .analyser; next = st .next; begun = st .begun; minute = st .minute; setting = st .setting; zero = st .zero; span = st .span; pending = n; pairs = ws; calibration = st .calibration; total = st .total; outside = st .outside; over = st .over; demand = st .demand; edition = st .edition }
 
 unfoldable pub withPair : State → Waiting → State
 withPair st w = withPairs st (st .pending + 1) (set (st .pairs) (st .pending) w)
@@ -41,18 +41,18 @@ unfoldable pub emptied : State → State
 emptied st = withPairs st 0 noPairs
 
 unfoldable pub withTally : State → ℕ → ℕ → State
-withTally st total outside = record { analyser = st .analyser; next = st .next; begun = st .begun; minute = st .minute; setting = st .setting; zero = st .zero; span = st .span; pending = st .pending; pairs = st .pairs; calibration = st .calibration; total = total; outside = outside; over = st .over; demand = st .demand }
+withTally st total outside = record { analyser = st .analyser; next = st .next; begun = st .begun; minute = st .minute; setting = st .setting; zero = st .zero; span = st .span; pending = st .pending; pairs = st .pairs; calibration = st .calibration; total = total; outside = outside; over = st .over; demand = st .demand; edition = st .edition }
 
 unfoldable pub withDemand : State → Demand → State
-withDemand st d = record { analyser = st .analyser; next = st .next; begun = st .begun; minute = st .minute; setting = st .setting; zero = st .zero; span = st .span; pending = st .pending; pairs = st .pairs; calibration = st .calibration; total = st .total; outside = st .outside; over = st .over; demand = d }
+withDemand st d = record { analyser = st .analyser; next = st .next; begun = st .begun; minute = st .minute; setting = st .setting; zero = st .zero; span = st .span; pending = st .pending; pairs = st .pairs; calibration = st .calibration; total = st .total; outside = st .outside; over = st .over; demand = d; edition = st .edition }
 
 -- a new period: the tally and the count of weeks start again
 unfoldable pub withPeriod : State → State
-withPeriod st = record { analyser = st .analyser; next = st .next; begun = st .begun; minute = st .minute; setting = st .setting; zero = st .zero; span = st .span; pending = st .pending; pairs = st .pairs; calibration = st .calibration; total = 0; outside = 0; over = 0; demand = st .demand }
+withPeriod st = record { analyser = st .analyser; next = st .next; begun = st .begun; minute = st .minute; setting = st .setting; zero = st .zero; span = st .span; pending = st .pending; pairs = st .pairs; calibration = st .calibration; total = 0; outside = 0; over = 0; demand = st .demand; edition = st .edition }
 
 -- a function comes into force: it starts a period and clears the calls
 unfoldable pub withFunction : State → Function → State
-withFunction st f = record { analyser = st .analyser; next = st .next; begun = st .begun; minute = st .minute; setting = st .setting; zero = st .zero; span = st .span; pending = st .pending; pairs = st .pairs; calibration = InForce f; total = 0; outside = 0; over = 0; demand = Quiet }
+withFunction st f = record { analyser = st .analyser; next = st .next; begun = st .begun; minute = st .minute; setting = st .setting; zero = st .zero; span = st .span; pending = st .pending; pairs = st .pairs; calibration = InForce f; total = 0; outside = 0; over = 0; demand = Quiet; edition = st .edition }
 
 -- a record of minute m is at hand: the week before it is judged where m is of a later one
 unfoldable pub judgedOf : State → ℕ → State
@@ -73,6 +73,7 @@ judgedOf st m =
       outside = if turn then 0 else st .outside;
       over = if turn && exceeds 5 (st .outside) (st .total) then st .over + 1 else st .over;
       demand = if turn && judges st then raisedOf (st .demand) m else st .demand;
+      edition = st .edition;
     }
 
 -- ---- the kinds that go by their mark
@@ -86,8 +87,8 @@ withValue st m outside =
 -- a reading, and a reset, of the chart of its mark
 unfoldable pub withReading : State → Record → State
 withReading st r =
-    if eqb (mark r) 0 then withZero st (appliedOf (st .zero) (st .setting .zero) (differenceOf r))
-    else withSpan st (appliedOf (st .span) (st .setting .span) (differenceOf r))
+    if eqb (mark r) 0 then withZero st (appliedOf (st .zero) (st .edition) (st .setting .zero) (differenceOf r))
+    else withSpan st (appliedOf (st .span) (st .edition) (st .setting .span) (differenceOf r))
 
 unfoldable pub withReset : State → Record → State
 withReset st r =

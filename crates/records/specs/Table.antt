@@ -1,5 +1,6 @@
--- Paper 01, 'Where input is stopped', rows 10 to 25, with the times, coverage, days and span of 'Calibration (6.4, 6.5)'.
--- The rows ask certain facts of the records before; they are the same whether read from a history or from a state.
+-- Paper 01, 'Where input is stopped', rows 10 to 25, with the times, coverage, days and span of 'Calibration (6.4, 6.5)', and paper 02, C-12.
+-- The rows ask certain facts of the records before, and the edition of the record's own block; they are the same whether read from a history or from a
+-- state.
 use mathlib.Core.Bool.{Bool, true, false, not, _&&_, _||_}
 use mathlib.Core.List.{List, [], _∷_, map}
 use mathlib.Core.Option.{Option, none, some}
@@ -22,8 +23,9 @@ use Rattle.records.specs.declared.state.Function.{Function}
 use Rattle.records.specs.declared.state.Calibration.{Calibration}
 use Rattle.records.specs.declared.state.Calibration.the-variants.{Absent, InForce}
 
--- what the rows ask of the records before: is there one, the last minute, the setting, of each chart whether it is started
--- and how many readings it has since its reset, the pairs that wait (oldest first), and the function in force
+-- what the rows ask beside the record: is there one before it, the last minute, the setting, of each chart whether it is started
+-- and how many readings it has since its reset, the pairs that wait (oldest first), the function in force, and the edition of
+-- the block in which the record stands
 pub record Facts : Type 0 where
   pub begun : Bool
   pub minute : ℕ
@@ -34,6 +36,7 @@ pub record Facts : Type 0 where
   pub spanReadings : ℕ
   pub pending : List Waiting
   pub calibration : Calibration
+  pub edition : ℕ
 
 -- ---- 11, 12
 
@@ -120,12 +123,12 @@ unfoldable pub calibrationOf : Facts → ℤ → Fitted
 calibrationOf f z =
     if not (countFits (length (f .pending))) then refusedFit 20
     else if not (daysFit (f .pending)) then refusedFit 21
-    else fitOf (f .setting .requirements) z (map pairOfWaiting (f .pending))
+    else fitOf (f .edition) (f .setting .requirements) z (map pairOfWaiting (f .pending))
 
 -- an annual closing: 19, then the test's refusals, or its verdicts
 unfoldable pub annualBy : Calibration → Facts → Tested
 annualBy Absent f = refusedTest 19
-annualBy (InForce l) f = testOf (f .setting .requirements) (lineOf l) (map pairOfWaiting (f .pending))
+annualBy (InForce l) f = testOf (f .edition) (f .setting .requirements) (lineOf l) (map pairOfWaiting (f .pending))
 
 abbrev pub annualOf : Facts → Tested
 annualOf f = annualBy (f .calibration) f

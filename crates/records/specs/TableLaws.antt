@@ -150,7 +150,7 @@ value-passes f e = by-test (inForce (f .calibration)) e
 
 -- the fit over the pairs that wait
 abbrev pub fitOver : Facts → Record → Fitted
-fitOver f r = fitOf (f .setting .requirements) (zOf r) (map pairOfWaiting (f .pending))
+fitOver f r = fitOf (f .edition) (f .setting .requirements) (zOf r) (map pairOfWaiting (f .pending))
 
 pub record CalibrationPasses (f : Facts) (r : Record) : Type 0 where
   pub counted : countFits (length (f .pending)) ≡ true
@@ -185,19 +185,19 @@ calibration-passes f r e =
 abbrev Few : Fitted → Type 0
 Few c = c .count ≤ 30
 
-module _ (q : Requirements) (z : ℤ) (ps : List Pair) (h : length ps ≤ 30) where
-  few-line : (l : Line) → Few (lineFits q ps l)
+module _ (edition : ℕ) (q : Requirements) (z : ℤ) (ps : List Pair) (h : length ps ≤ 30) where
+  few-line : (l : Line) → Few (lineFits edition q ps l)
   unfolding lineFits
-  few-line l = if-all Few (someBeyond (q .oxygen) l ps) _ _ (λ t. omega arith) (λ t. h)
+  few-line l = if-all Few (someBeyond edition (q .oxygen) l ps) _ _ (λ t. omega arith) (λ t. h)
 
-  few-from : Few (fitFrom q z ps (sumsOf ps))
+  few-from : Few (fitFrom edition q z ps (sumsOf ps))
   unfolding fitFrom
   few-from =
-      let flat = flatOf q ps in
+      let flat = flatOf edition q ps in
       if-all Few (leZ (divisorOf flat (sumsOf ps) z) (pos 0)) _ _ (λ t. omega arith)
-      (λ t. if-all Few (not (slopeRangedOf (slopeOf flat (sumsOf ps) z))) _ _ (λ u. omega arith) (λ u. few-line _))
+      (λ t. if-all Few (not (slopeRangedOf (slopeOf edition flat (sumsOf ps) z))) _ _ (λ u. omega arith) (λ u. few-line _))
 
-  few-fit : Few (fitOf q z ps)
+  few-fit : Few (fitOf edition q z ps)
   unfolding fitOf
   few-fit = if-all Few (not (countFits (length ps))) _ _ (λ t. omega arith) (λ t. few-from)
 
@@ -206,7 +206,7 @@ unfolding calibrationOf
 calibration-count f z h =
     if-all Few (not (countFits (length (f .pending)))) _ _ (λ t. omega arith)
     (λ t. if-all Few (not (daysFit (f .pending))) _ _ (λ u. omega arith)
-    (λ u. few-fit (f .setting .requirements) z (map pairOfWaiting (f .pending)) (omega (arith, length-map (f .pending) pairOfWaiting))))
+    (λ u. few-fit (f .edition) (f .setting .requirements) z (map pairOfWaiting (f .pending)) (omega (arith, length-map (f .pending) pairOfWaiting))))
 
 same-is : (a b : ℤ) → T (sameℤ a b) → a ≡ b
 same-is a b t = let p = and-yes (leZ a b) (leZ b a) t in ≤ℤ-antisymm (leZ-yes (p .0)) (leZ-yes (p .1))

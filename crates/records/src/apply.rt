@@ -74,6 +74,7 @@ pub fn initial(analyser: u32) -> State
         outside: 0,
         over: 0,
         demand: Demand::Quiet,
+        edition: 0,
     }
 }
 
@@ -209,15 +210,16 @@ fn with_period(st: State) -> State
     }
 }
 
-// Whether a value is outside, with the function in force.
-fn outside(k: Calibration, s: Setting, r: &[u8]) -> bool
+// Whether a value is outside, with the function in force, by the edition of its block.
+fn outside(edition: u8, k: Calibration, s: Setting, r: &[u8]) -> bool
     requires { ⌜ CalibrationSound k × SettingSound s × (length (now r) ≡ 40) × (valueRanged (now r) ≡ true) ⌝ }
-    ensures { λ b. ⌜ b ≡ outsideBy k s (now (r .entry)) ⌝ }
+    ensures { λ b. ⌜ b ≡ outsideBy edition k s (now (r .entry)) ⌝ }
 {
     match k {
         Calibration::Absent => false,
         Calibration::InForce(f) => {
             let c = calibration::value(
+                edition,
                 s.requirements.oxygen,
                 Line {
                     slope: f.slope,
@@ -261,13 +263,13 @@ fn with_reading(st: State, r: &[u8]) -> State
     if r[1] == 0 {
         let c = st.zero;
         return State {
-            zero: c.apply(st.setting.zero, d),
+            zero: c.apply(st.edition, st.setting.zero, d),
             ..st
         };
     }
     let c = st.span;
     State {
-        span: c.apply(st.setting.span, d),
+        span: c.apply(st.edition, st.setting.span, d),
         ..st
     }
 }
@@ -331,9 +333,10 @@ pub fn apply(st: State, r: &[u8]) -> State
         5 => with_calibration(s, r),
         6 => with_annual(s, r),
         7 => {
+            let e = s.edition;
             let k = s.calibration;
             let q = s.setting;
-            with_value(s, r[1], outside(k, q, r))
+            with_value(s, r[1], outside(e, k, q, r))
         }
         8 => emptied(s),
         0 => s,
@@ -357,6 +360,7 @@ pub fn value(mut st: State, r: &[u8]) -> State
     requires { ⌜ InWeek 7 st (now r) ⌝ }
     ensures { λ s. ⌜ s ≡ appliedTo st (now (r .entry)) ⌝ }
 {
+    let e = st.edition;
     let k = st.calibration;
     let q = st.setting;
     st.begun = true;
@@ -365,7 +369,7 @@ pub fn value(mut st: State, r: &[u8]) -> State
         return st;
     }
     st.total = st.total + 1;
-    if outside(k, q, r) {
+    if outside(e, k, q, r) {
         st.outside = st.outside + 1;
         return st;
     }
@@ -382,12 +386,12 @@ pub fn reading(mut st: State, r: &[u8]) -> State
     st.minute = bytes::read32(r, 4);
     if r[1] == 0 {
         let c = st.zero;
-        let after = c.apply(st.setting.zero, d);
+        let after = c.apply(st.edition, st.setting.zero, d);
         st.zero = after;
         return st;
     }
     let c = st.span;
-    let after = c.apply(st.setting.span, d);
+    let after = c.apply(st.edition, st.setting.span, d);
     st.span = after;
     st
 }

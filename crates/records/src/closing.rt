@@ -50,17 +50,18 @@ pub fn calibration_result(st: State, z: i32) -> Fitted
         return refused_fit(21);
     }
     let q = st.setting.requirements;
-    calibration::fit(checks::figures(waiting), n, q, z)
+    calibration::fit(st.edition, checks::figures(waiting), n, q, z)
 }
 
 fn test_with(st: State, f: Function) -> Tested
     requires { ⌜ Sound 4000000000 st × SettingSound (st .setting) × LineRanged (lineOf f) ⌝ }
-    ensures { λ t. ⌜ t ≡ testOf (st .setting .requirements) (lineOf f) (map pairOfWaiting (take (st .pending) (st .pairs))) ⌝ }
+    ensures { λ t. ⌜ t ≡ testOf (st .edition) (st .setting .requirements) (lineOf f) (map pairOfWaiting (take (st .pending) (st .pairs))) ⌝ }
 {
     let n = st.pending;
     let waiting = st.pairs;
     let q = st.setting.requirements;
     calibration::annual_test(
+        st.edition,
         checks::figures(waiting),
         n,
         q,

@@ -40,7 +40,8 @@ pub enum Demand {
     Since(u32),
 }
 
-// The standing: an analyser, the block number that it expects, and a summary of the accepted records.
+// The standing: an analyser, the block number that it expects, a summary of the accepted records, and the edition of the block that is open,
+// or between blocks that of the last one taken or formed: 0 before the first.
 pub struct State {
     pub analyser: u32,
     pub next: u32,
@@ -56,6 +57,7 @@ pub struct State {
     pub outside: u32,
     pub over: u32,
     pub demand: Demand,
+    pub edition: u8,
 }
 
 // What becomes of a state and a record: the refusal (0 for none), and the state after it.

@@ -41,10 +41,10 @@ fits c = sym (c .before .annual-count-fits .ensures) ∙ not-false (c .before .a
 count : (c : tie.Else1) → (5 ≤ c .before .before .args .n) × (c .before .before .args .n ≤ 8)
 count c = annual-count (c .before .before .args .n) (fits c)
 
-beyond-is : (c : tie.After-beyond) → let s = c .before .before .before .before in c .beyond .result ≡ someBeyond (s .args .q .oxygen) (s .args .l) (ps s)
-beyond-is c = let s = c .before .before .before .before in c .beyond .ensures ∙ ap (λ (o : ℤ). someBeyond o (s .args .l) (ps s)) (oxygen s)
+beyond-is : (c : tie.After-beyond) → let s = c .before .before .before .before in c .beyond .result ≡ someBeyond (s .args .edition) (s .args .q .oxygen) (s .args .l) (ps s)
+beyond-is c = let s = c .before .before .before .before in c .beyond .ensures ∙ ap (λ (o : ℤ). someBeyond (s .args .edition) o (s .args .l) (ps s)) (oxygen s)
 
-near : (c : tie.Else2) → let s = c .before .before .before .before .before in someBeyond (s .args .q .oxygen) (s .args .l) (ps s) ≡ false
+near : (c : tie.Else2) → let s = c .before .before .before .before .before in someBeyond (s .args .edition) (s .args .q .oxygen) (s .args .l) (ps s) ≡ false
 near c = sym (beyond-is (c .before)) ∙ c .if2 .left
 
 module _ (c : tie.After-pair-residuals) where
@@ -54,22 +54,22 @@ module _ (c : tie.After-pair-residuals) where
   abbrev s₁ : tie.Start
   s₁ = e₁ .before .before
 
-  residuals-are : c .pair-residuals .result ≡ residualsOf (s₁ .args .q .oxygen) (s₁ .args .l) (ps s₁)
-  residuals-are = c .pair-residuals .ensures ∙ ap (λ (o : ℤ). residualsOf o (s₁ .args .l) (ps s₁)) (oxygen s₁)
+  residuals-are : c .pair-residuals .result ≡ residualsOf (s₁ .args .edition) (s₁ .args .q .oxygen) (s₁ .args .l) (ps s₁)
+  residuals-are = c .pair-residuals .ensures ∙ ap (λ (o : ℤ). residualsOf (s₁ .args .edition) o (s₁ .args .l) (ps s₁)) (oxygen s₁)
 
-  spread : Dispersed (s₁ .args .n) (c .pair-residuals .result) (qOf (deviationsOf (s₁ .args .q .oxygen) (s₁ .args .l) (ps s₁)))
-  spread = dispersed (s₁ .args .q .oxygen) (s₁ .args .l) (ps s₁) (s₁ .args .n) (counted s₁) (omega (arith, count e₁)) (s₁ .pre .0) (near (c .before .before)) residuals-are
+  spread : Dispersed (s₁ .args .n) (c .pair-residuals .result) (qOf (deviationsOf (s₁ .args .edition) (s₁ .args .q .oxygen) (s₁ .args .l) (ps s₁)))
+  spread = dispersed (s₁ .args .edition) (s₁ .args .q .oxygen) (s₁ .args .l) (ps s₁) (s₁ .args .n) (counted s₁) (omega (arith, count e₁)) (s₁ .pre .0) (near (c .before .before)) residuals-are
 
   abbrev S : Loc w64
   S = arg (c .pair-residuals .result .sum) (abs-sfits (omega (arith, spread .sum)))
 
-  sum-is : toZ w64 (S .bits) ≡ residualsOf (s₁ .args .q .oxygen) (s₁ .args .l) (ps s₁) .sum
+  sum-is : toZ w64 (S .bits) ≡ residualsOf (s₁ .args .edition) (s₁ .args .q .oxygen) (s₁ .args .l) (ps s₁) .sum
   sum-is = S .reads ∙ ap (λ (r : Residuals). r .sum) residuals-are
 
   pairs : s₁ .args .n * (s₁ .args .n - 1) ≤ 56
   pairs = mul-le-mul {n₂ = 8} {m₂ = 7} (count e₁ .1) (omega (arith, count e₁))
 
-dispersion-is : (c : tie.After-dispersion) → let s = s₁ (c .before) in pos (c .dispersion .result) ≡ qOf (deviationsOf (s .args .q .oxygen) (s .args .l) (ps s))
+dispersion-is : (c : tie.After-dispersion) → let s = s₁ (c .before) in pos (c .dispersion .result) ≡ qOf (deviationsOf (s .args .edition) (s .args .q .oxygen) (s .args .l) (ps s))
 dispersion-is c = c .dispersion .ensures ∙ spread (c .before) .is
 
 -- ---- the needs
@@ -80,7 +80,7 @@ returns : tie.Need-returns
 returns c =
     let k = c .before in
     let s = k .before in
-    sym (test-unfit (s .args .q) (s .args .l) (ps s) (ap annualCountFits (counted s) ∙ sym (k .annual-count-fits .ensures) ∙ not-true (k .annual-count-fits .result) (c .if1 .taken)))
+    sym (test-unfit (s .args .edition) (s .args .q) (s .args .l) (ps s) (ap annualCountFits (counted s) ∙ sym (k .annual-count-fits .ensures) ∙ not-true (k .annual-count-fits .result) (c .if1 .taken)))
 
 beyond-requires : tie.Need-beyond-requires
 beyond-requires c κs = search needs
@@ -90,7 +90,7 @@ returns-2 c =
     let b = c .before in
     let e = b .before .before in
     let s = e .before .before in
-    sym (test-beyond (s .args .q) (s .args .l) (ps s) (ap annualCountFits (counted s) ∙ fits e) (sym (beyond-is b) ∙ c .if2 .taken))
+    sym (test-beyond (s .args .edition) (s .args .q) (s .args .l) (ps s) (ap annualCountFits (counted s) ∙ fits e) (sym (beyond-is b) ∙ c .if2 .taken))
 
 pair-residuals-requires : tie.Need-pair-residuals-requires
 pair-residuals-requires c κs =
@@ -137,12 +137,12 @@ returns-3 c =
     let s = s₁ p in
     let a = s .args in
     let q = d .dispersion .result in
-    test-stands (a .q) (a .l) (ps s) (a .n) q (natAbs (a .q .uncertainty)) (fits (e₁ p)) (near (p .before .before)) (counted s) (dispersion-is d) (sigma-is (s .pre .2))
+    test-stands (a .edition) (a .q) (a .l) (ps s) (a .n) q (natAbs (a .q .uncertainty)) (fits (e₁ p)) (near (p .before .before)) (counted s) (dispersion-is d) (sigma-is (s .pre .2))
     (v .varied .result) (v .varied .ensures ∙ rw (sigma-reads (s .pre .2), v .before .annual-k-factor .ensures .0))
     (c .function-holds .result)
     (c .function-holds .ensures
     ∙ ap (λ (z : ℤ). functionOf (a .n) z (pos q) (pos (natAbs (toZ w32 (ofZ w32 (a .q .uncertainty)))))) (sum-is p)
-    ∙ ap (λ (k : ℕ). functionOf (a .n) (residualsOf (a .q .oxygen) (a .l) (ps s) .sum) (pos q) (pos k)) (sigma-reads (s .pre .2)))
+    ∙ ap (λ (k : ℕ). functionOf (a .n) (residualsOf (a .edition) (a .q .oxygen) (a .l) (ps s) .sum) (pos q) (pos k)) (sigma-reads (s .pre .2)))
 
 pub annual-test-spec : {M : Type 1} → statement M
 annual-test-spec =

@@ -16,38 +16,40 @@ use Rattle.calibration.proofs.beyond.Statement.{statement}
 use Rattle.calibration.proofs.beyond.Tie as tie
 
 abbrev Inv-loop : tie.InvT-loop
-Inv-loop n reference l pairs i₀ i = (i ≤ n) × (someBeyond (toZ w32 reference) l (drop i (take n pairs)) ≡ someBeyond (toZ w32 reference) l (take n pairs))
+Inv-loop edition n reference l pairs i₀ i =
+    (i ≤ n)
+    × (someBeyond edition (toZ w32 reference) l (drop i (take n pairs)) ≡ someBeyond edition (toZ w32 reference) l (take n pairs))
 
 abbrev μ-loop : tie.MeasureT-loop
-μ-loop n reference l pairs i₀ i = n - i
+μ-loop edition n reference l pairs i₀ i = n - i
 
 back : (c : tie.Start Inv-loop μ-loop) → toZ w32 (ofZ w32 (c .args .reference)) ≡ c .args .reference
 back c = toZ-ofZ (c .fits .reference)
 
-enough : (c : tie.Start Inv-loop μ-loop) → c .args .n ≤ length (c .args .t1)
-enough c = let e : length (c .args .t1) ≡ 30 = search needs in omega (arith, c .pre .0)
+enough : (c : tie.Start Inv-loop μ-loop) → c .args .n ≤ length (c .args .t2)
+enough c = let e : length (c .args .t2) ≡ 30 = search needs in omega (arith, c .pre .0)
 
 abbrev pair : tie.In-loop Inv-loop μ-loop → Pair
-pair c = getD (c .before .before .args .t1) (c .before .loop .i) unset
+pair c = getD (c .before .before .args .t2) (c .before .loop .i) unset
 
 ranged : (c : tie.In-loop Inv-loop μ-loop) → PairRanged (pair c)
 ranged c =
     let s = c .before .before in
-    pair-ranged (s .args .t1) (s .args .n) (enough s) (s .pre .1) (c .before .loop .i) (c .loop-test .taken)
+    pair-ranged (s .args .t2) (s .args .n) (enough s) (s .pre .1) (c .before .loop .i) (c .loop-test .taken)
 
 -- the turn's pair, then the pairs left after it
 turn : (c : tie.In-loop Inv-loop μ-loop) →
     let a = c .before .before .args in
     let o = toZ w32 (ofZ w32 (a .reference)) in
-    (beyondOf o (a .l) (pair c) || someBeyond o (a .l) (drop (c .before .loop .i + 1) (take (a .n) (a .t1)))) ≡ someBeyond o (a .l) (take (a .n) (a .t1))
+    (beyondOf (a .edition) o (a .l) (pair c) || someBeyond (a .edition) o (a .l) (drop (c .before .loop .i + 1) (take (a .n) (a .t2)))) ≡ someBeyond (a .edition) o (a .l) (take (a .n) (a .t2))
 turn c =
     let s = c .before .before in
-    rw (next (s .args .t1) (s .args .n) (enough s) (c .before .loop .i) unset (c .loop-test .taken)) at (c .before .loop .inv .1)
+    rw (next (s .args .t2) (s .args .n) (enough s) (c .before .loop .i) unset (c .loop-test .taken)) at (c .before .loop .inv .1)
 
 tested : (c : tie.After-far2 Inv-loop μ-loop) →
     let t = c .before .before .before .before .before in
     let a = t .before .before .args in
-    beyondOf (toZ w32 (ofZ w32 (a .reference))) (a .l) (pair t) ≡ (c .before .before .far .result || c .far2 .result)
+    beyondOf (a .edition) (toZ w32 (ofZ w32 (a .reference))) (a .l) (pair t) ≡ (c .before .before .far .result || c .far2 .result)
 unfolding beyondOf
 tested c = rw (c .before .before .far .ensures, c .before .before .before .measured .ensures, c .far2 .ensures, c .before .fitted-value .ensures)
 
@@ -95,7 +97,7 @@ loop-again c =
 returns-2 : tie.Need-returns-2 Inv-loop μ-loop
 returns-2 c =
     let s = c .before .before in
-    let done = rw (passed (s .args .t1) (s .args .n) (enough s) (c .before .loop .i) (c .loop-test .left)) at (c .before .loop .inv .1) in
+    let done = rw (passed (s .args .t2) (s .args .n) (enough s) (c .before .loop .i) (c .loop-test .left)) at (c .before .loop .inv .1) in
     rw (back s) at done
 
 pub beyond-spec : {M : Type 1} → statement M

@@ -34,7 +34,7 @@ abbrev start₂ : tie.After-struct-told2 → tie.Start
 start₂ c = start (c .before .before)
 
 -- the result, and the same as i32
-is : (c : tie.After-near) → let a = start₂ (c .before) .args in c .near .result ≡ calibratedOf (a .l) (a .x) .0
+is : (c : tie.After-near) → let a = start₂ (c .before) .args in c .near .result ≡ calibratedOf (a .edition) (a .l) (a .x) .0
 unfolding calibratedOf
 is c = c .near .ensures ∙ rw (S (start₂ (c .before)) .reads)
 
@@ -44,7 +44,7 @@ Y c = arg (c .near .result) (record { sfits = c .near .ok })
 abbrev Z : tie.After-near → Loc w32
 Z c =
     let s = start₂ (c .before) in
-    cast w32 (Y c) (rw (is c) (abs-sfits (omega (arith, calibrated-bound (s .args .l) (s .args .x) (s .pre .0) (s .pre .1)))))
+    cast w32 (Y c) (rw (is c) (abs-sfits (omega (arith, calibrated-bound (s .args .edition) (s .args .l) (s .args .x) (s .pre .0) (s .pre .1)))))
 
 cast-near : tie.Need-cast-near
 cast-near c = wide-need (between-fits tt (start c .pre .0 .slope))
@@ -61,12 +61,12 @@ add-near c = add-need (A (start₂ c)) (BX (start₂ c)) (S (start₂ c) .fit)
 near-requires : tie.Need-near-requires
 near-requires c κs = rw (S (start₂ c) .reads) (omega (arith, line-bound (start₂ c .pre .0) (start₂ c .pre .1)), omega ints, omega arith)
 
-cast-t8 : tie.Need-cast-t8
-cast-t8 c = cast-need w32 (Y c) (Z c .fit)
+cast-t9 : tie.Need-cast-t9
+cast-t9 c = cast-need w32 (Y c) (Z c .fit)
 
 returns : tie.Need-returns
 returns c = ap (λ (z : ℤ). record { 0 = z }) (Z c .reads ∙ is c)
 
 pub calibrated-spec : {M : Type 1} → statement M
 calibrated-spec =
-    tie.close (tie.spec cast-near cast-near-2 mul-near add-near near-requires cast-t8 returns)
+    tie.close (tie.spec cast-near cast-near-2 mul-near add-near near-requires cast-t9 returns)

@@ -52,7 +52,7 @@ returns c =
     let k = c .before .before in
     let s = k .before in
     c .refused-fit .ensures
-    ∙ sym (count-unfit (s .args .q) (s .args .z) (ps s) (ap countFits (counted s) ∙ sym (k .count-fits .ensures) ∙ not-true (k .count-fits .result) (c .before .if1 .taken)))
+    ∙ sym (count-unfit (s .args .edition) (s .args .q) (s .args .z) (ps s) (ap countFits (counted s) ∙ sym (k .count-fits .ensures) ∙ not-true (k .count-fits .result) (c .before .if1 .taken)))
 
 pair-sums-requires : tie.Need-pair-sums-requires
 pair-sums-requires c κs = search needs
@@ -68,9 +68,9 @@ returns-2 : tie.Need-returns-2
 returns-2 c =
     let s = c .before .before .before .before in
     c .fit-from .ensures
-    ∙ ap (λ (z : ℤ). fitFrom (s .args .q) z (ps s) (c .before .pair-sums .result)) (z-back s)
-    ∙ ap (fitFrom (s .args .q) (s .args .z) (ps s)) (c .before .pair-sums .ensures)
-    ∙ sym (count-fit (s .args .q) (s .args .z) (ps s) (ap countFits (counted s) ∙ fits (c .before .before)))
+    ∙ ap (λ (z : ℤ). fitFrom (s .args .edition) (s .args .q) z (ps s) (c .before .pair-sums .result)) (z-back s)
+    ∙ ap (fitFrom (s .args .edition) (s .args .q) (s .args .z) (ps s)) (c .before .pair-sums .ensures)
+    ∙ sym (count-fit (s .args .edition) (s .args .q) (s .args .z) (ps s) (ap countFits (counted s) ∙ fits (c .before .before)))
 
 pub fit-spec : {M : Type 1} → statement M
 fit-spec =

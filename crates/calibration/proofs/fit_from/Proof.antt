@@ -33,20 +33,20 @@ module _ (c : tie.Start) where
   ps = take (c .args .n) (c .args .pairs)
 
   abbrev flat : Bool
-  flat = flatOf (c .args .q) ps
+  flat = flatOf (c .args .edition) (c .args .q) ps
 
   -- what B is made of, and B itself
   abbrev rise : ℤ
   rise = riseOf flat (c .args .u)
 
   abbrev divisor : ℤ
-  divisor = divisorBy (c .args .q) (c .args .z) ps (c .args .u)
+  divisor = divisorBy (c .args .edition) (c .args .q) (c .args .z) ps (c .args .u)
 
   abbrev slope : ℤ
-  slope = slopeBy (c .args .q) (c .args .z) ps (c .args .u)
+  slope = slopeBy (c .args .edition) (c .args .q) (c .args .z) ps (c .args .u)
 
   abbrev line : Line
-  line = record { slope = slope; intercept = interceptOf flat (c .args .u) (c .args .z) slope }
+  line = record { slope = slope; intercept = interceptOf (c .args .edition) flat (c .args .u) (c .args .z) slope }
 
   z-back : toZ w32 (ofZ w32 (c .args .z)) ≡ c .args .z
   z-back = toZ-ofZ (c .fits .z)
@@ -75,21 +75,22 @@ B c = arg (c .slope .result) (record { sfits = c .slope .ok })
 rise-is : (c : tie.After-rise) → c .rise .result ≡ rise (c .before .before .before .before)
 rise-is c = c .rise .ensures ∙ ap (λ (f : Bool). riseOf f (c .before .before .before .before .args .u)) (c .before .before .before .is-flat .ensures)
 
-slope-is : (c : tie.After-slope) → let s = c .before .before .before .before .before in c .slope .result ≡ slopeCode (rise s) (divisor s)
+slope-is : (c : tie.After-slope) → let s = c .before .before .before .before .before in c .slope .result ≡ slopeCode (s .args .edition) (rise s) (divisor s)
 slope-is c =
     let m = c .before in
     let d = m .before .before in
+    let e = d .before .before .args .edition in
     c .slope .ensures
-    ∙ ap (λ (r : ℤ). slopeCode r (toZ w64 (D d .bits))) (M m .reads ∙ rise-is m)
-    ∙ ap (slopeCode (rise (d .before .before))) (D d .reads ∙ divisor-is d)
+    ∙ ap (λ (r : ℤ). slopeCode e r (toZ w64 (D d .bits))) (M m .reads ∙ rise-is m)
+    ∙ ap (slopeCode e (rise (d .before .before))) (D d .reads ∙ divisor-is d)
 
 -- B is in its range
 module _ (c : tie.Else2) where
   abbrev s₂ : tie.Start
   s₂ = c .before .before .before .before .before .before
 
-  kept : (slopeRangedOf (slope s₂) ≡ true) × (slopeCode (rise s₂) (divisor s₂) ≡ slope s₂)
-  kept = slope-taken (rise s₂) (divisor s₂) (λ e. eq-false w32 (c .if2 .left) (slope-is (c .before) ∙ e))
+  kept : (slopeRangedOf (slope s₂) ≡ true) × (slopeCode (s₂ .args .edition) (rise s₂) (divisor s₂) ≡ slope s₂)
+  kept = slope-taken (s₂ .args .edition) (rise s₂) (divisor s₂) (λ e. eq-false w32 (c .if2 .left) (slope-is (c .before) ∙ e))
 
   slope-kept : toZ w32 (B (c .before) .bits) ≡ slope s₂
   slope-kept = B (c .before) .reads ∙ slope-is (c .before) ∙ kept .1
@@ -98,14 +99,14 @@ module _ (c : tie.Else2) where
   slope-ranged = between-answers (pos 1) (pos 1000000) (slope s₂) .sure (subst T (sym (kept .0)) tt)
 
 -- ---- the function
-intercept-is : (c : tie.After-intercept) → let s = s₂ (c .before) in c .intercept .result ≡ interceptOf (flat s) (s .args .u) (s .args .z) (slope s)
+intercept-is : (c : tie.After-intercept) → let s = s₂ (c .before) in c .intercept .result ≡ interceptOf (s .args .edition) (flat s) (s .args .u) (s .args .z) (slope s)
 intercept-is c =
     let b = c .before .before in
     let s = s₂ (c .before) in
     c .intercept .ensures
-    ∙ ap (λ (f : Bool). interceptOf f (s .args .u) (toZ w32 (ofZ w32 (s .args .z))) (toZ w32 (B b .bits))) (b .before .before .before .before .is-flat .ensures)
-    ∙ ap (λ (z : ℤ). interceptOf (flat s) (s .args .u) z (toZ w32 (B b .bits))) (z-back s)
-    ∙ ap (interceptOf (flat s) (s .args .u) (s .args .z)) (slope-kept (c .before))
+    ∙ ap (λ (f : Bool). interceptOf (s .args .edition) f (s .args .u) (toZ w32 (ofZ w32 (s .args .z))) (toZ w32 (B b .bits))) (b .before .before .before .before .is-flat .ensures)
+    ∙ ap (λ (z : ℤ). interceptOf (s .args .edition) (flat s) (s .args .u) z (toZ w32 (B b .bits))) (z-back s)
+    ∙ ap (interceptOf (s .args .edition) (flat s) (s .args .u) (s .args .z)) (slope-kept (c .before))
 
 line-is : (c : tie.After-intercept) → record { slope = toZ w32 (B (c .before .before) .bits); intercept = toZ w64 (ofZ w64 (c .intercept .result)) } ≡ line (s₂ (c .before))
 line-is c =
@@ -127,7 +128,7 @@ returns c =
     let d = c .before .before in
     let s = d .before .before in
     c .refused-fit .ensures
-    ∙ sym (no-divisor (s .args .q) (s .args .z) (ps s) (s .args .u) (subst (λ (x : ℤ). x ≤ℤ pos 0) (divisor-is d) (le-true (D d) Zero (c .before .if1 .taken))))
+    ∙ sym (no-divisor (s .args .edition) (s .args .q) (s .args .z) (ps s) (s .args .u) (subst (λ (x : ℤ). x ≤ℤ pos 0) (divisor-is d) (le-true (D d) Zero (c .before .if1 .taken))))
 
 rise-requires : tie.Need-rise-requires
 rise-requires c κs = search needs
@@ -146,7 +147,7 @@ returns-2 c =
     let b = c .before .before in
     let s = b .before .before .before .before .before in
     c .refused-fit2 .ensures
-    ∙ sym (no-slope (s .args .q) (s .args .z) (ps s) (s .args .u) (above (b .before .before)) (slope-refused (rise s) (divisor s) (sym (slope-is b) ∙ eq-true (B b) Zero₃₂ (c .before .if2 .taken))))
+    ∙ sym (no-slope (s .args .edition) (s .args .q) (s .args .z) (ps s) (s .args .u) (above (b .before .before)) (slope-refused (s .args .edition) (rise s) (divisor s) (sym (slope-is b) ∙ eq-true (B b) Zero₃₂ (c .before .if2 .taken))))
 
 intercept-requires : tie.Need-intercept-requires
 intercept-requires c κs =
@@ -156,15 +157,15 @@ intercept-requires c κs =
 line-fits-requires : tie.Need-line-fits-requires
 line-fits-requires c κs =
     let s = s₂ (c .before) in
-    (s .pre .0, s .pre .1, s .pre .2, s .pre .3, subst LineRanged (sym (line-is c)) (line-ranged (s .pre .5) (s .pre .6) (s .pre .4) (slope-ranged (c .before)) (flat s)))
+    (s .pre .0, s .pre .1, s .pre .2, s .pre .3, subst LineRanged (sym (line-is c)) (line-ranged (s .args .edition) (s .pre .5) (s .pre .6) (s .pre .4) (slope-ranged (c .before)) (flat s)))
 
 returns-3 : tie.Need-returns-3
 returns-3 c =
     let e = c .before .before in
     let s = s₂ e in
     c .line-fits .ensures
-    ∙ ap (lineFits (s .args .q) (ps s)) (line-is (c .before))
-    ∙ sym (a-line (s .args .q) (s .args .z) (ps s) (s .args .u) (above (e .before .before .before)) (kept e .0))
+    ∙ ap (lineFits (s .args .edition) (s .args .q) (ps s)) (line-is (c .before))
+    ∙ sym (a-line (s .args .edition) (s .args .q) (s .args .z) (ps s) (s .args .u) (above (e .before .before .before)) (kept e .0))
 
 pub fit-from-spec : {M : Type 1} → statement M
 fit-from-spec =

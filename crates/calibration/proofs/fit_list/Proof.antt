@@ -58,13 +58,13 @@ use Rattle.calibration.specs.LentListLaws.{gatheredNone, gatherOf, gathe
 use Rattle.calibration.specs.ListLaws.{unset}
 use Rattle.calibration.specs.Pairs.{AllRanged}
 use Rattle.calibration.specs.declared.Pair.{Pair}
-use Rattle.calibration.specs.declared.Requirements.{Requirements}
+use Rattle.calibration.specs.declared.Basis.{Basis}
 use Rattle.calibration.specs.declared.Gathered.{Gathered}
 use Rattle.calibration.specs.declared.Fitted.{Fitted}
 use Rattle.calibration.proofs.Pair as P
 use Rattle.calibration.proofs.Pair.Laws as P′
-use Rattle.calibration.proofs.Requirements as R
-use Rattle.calibration.proofs.Requirements.Laws as R′
+use Rattle.calibration.proofs.Basis as R
+use Rattle.calibration.proofs.Basis.Laws as R′
 use Rattle.calibration.proofs.Gathered as G
 use Rattle.calibration.proofs.Gathered.Laws as G′
 use Rattle.calibration.proofs.Fitted as F
@@ -131,7 +131,7 @@ module _ {M : Type 1} (𝓤 : URA M) (H : Heap 𝓤) (A : Atoms 𝓤) (mem : Mem
   gather-said : (g : Gathered) (p : Pair) (r : Gathered) → ent 𝓤 (ensured 𝓤 H A gather.ended (gather.clauses 𝓤 H A mem run) tt (g, (p, tt)) tt r) (fact 𝓤 (r ≡ gatherOf g p))
   gather-said g p r = exE 𝓤 _ (λ ws. snd∗ 𝓤 (sem 𝓤 H A (lasts gather.ended tt (g, (p, tt)) ws)) (fact 𝓤 (r ≡ gatherOf g p)))
 
-  fit-said : (g : Gathered) (e : Requirements) (z : ℤ) (r : Fitted) → ent 𝓤 (ensured 𝓤 H A fit.ended (fit.clauses 𝓤 H A mem run) tt (g, (e, (z, tt))) tt r) (fact 𝓤 (r ≡ gatheredFit g e z))
+  fit-said : (g : Gathered) (e : Basis) (z : ℤ) (r : Fitted) → ent 𝓤 (ensured 𝓤 H A fit.ended (fit.clauses 𝓤 H A mem run) tt (g, (e, (z, tt))) tt r) (fact 𝓤 (r ≡ gatheredFit g e z))
   fit-said g e z r = exE 𝓤 _ (λ ws. snd∗ 𝓤 (sem 𝓤 H A (lasts fit.ended tt (g, (e, (z, tt))) ws)) (fact 𝓤 (r ≡ gatheredFit g e z)))
 
 module _ {M : Type 1} (𝓤 : URA M) (H : Heap 𝓤) (A : Atoms 𝓤) (W : Given 𝓤 H A) (mem : Memory → SProp 𝓤) (run : Routine → Fun 𝓤) where
@@ -148,16 +148,16 @@ module _ {M : Type 1} (𝓤 : URA M) (H : Heap 𝓤) (A : Atoms 𝓤) (W : Given
   goes-gather : (g : Gathered) (u : Val) (p : Pair) (w : Val) → ent 𝓤 (⋆ 𝓤 H A (‵ (G.the-row .own g (u ∷ [])) ∷ ‵ (P.the-row .own p (w ∷ [])) ∷ [])) (Gather 𝓤 H A mem run .pre (to-gather g u p w))
   goes-gather g u p w = qed W (‵ (G.the-row .own g (u ∷ [])) ∷ ‵ (P.the-row .own p (w ∷ [])) ∷ []) ∵ nothing ! $ move ! (2 ∷ 0 ∷ []) $ join ! $ move ! (1 ∷ 0 ∷ []) $ join ! $ nothing ! $ join ! $ frame ! $ done !
 
-  abbrev to-fit : Gathered → Val → Requirements → Val → ℤ → Fit 𝓤 H A mem run .Ghost
+  abbrev to-fit : Gathered → Val → Basis → Val → ℤ → Fit 𝓤 H A mem run .Ghost
   to-fit g u e m z = ((tt, tt, tt, (g, (e, (z, tt))), (u ∷ [], (m ∷ [], (vint w32 (ofZ w32 z) ∷ [], tt)))), tt)
 
-  goes-fit : (g : Gathered) (u : Val) (e : Requirements) (m : Val) (z : ℤ) → mag z < 2 ^ hbits w32 → (g .ranged ≡ true → AllRanged (take (g .count) (g .pairs)))
+  goes-fit : (g : Gathered) (u : Val) (e : Basis) (m : Val) (z : ℤ) → mag z < 2 ^ hbits w32 → (g .ranged ≡ true → AllRanged (take (g .count) (g .pairs)))
       → ent 𝓤 (⋆ 𝓤 H A (‵ (G.the-row .own g (u ∷ [])) ∷ ‵ (R.the-row .own e (m ∷ [])) ∷ [])) (Fit 𝓤 H A mem run .pre (to-fit g u e m z))
   goes-fit g u e m z z-fits asked =
       qed W (‵ (G.the-row .own g (u ∷ [])) ∷ ‵ (R.the-row .own e (m ∷ [])) ∷ []) ∵ says ! asked $ nothing ! $ owned ! i32 (Is i32) (sint-makes 𝓤 H A W w32) z _ (refl, z-fits) $ fjoin ! $
       move ! (2 ∷ 0 ∷ []) $ fjoin ! $ move ! (1 ∷ 0 ∷ []) $ fjoin ! $ nothing ! $ frame ! $ done !
 
-module _ {M : Type 1} (𝓤 : URA M) (H : Heap 𝓤) (A : Atoms 𝓤) (W : Given 𝓤 H A) (mem : Memory → SProp 𝓤) (run : Routine → Fun 𝓤) (κ : Lft) (q : Share) (b o : ℕ) (γ : GName) (ys : List Pair) (e : Requirements) (z : ℤ) (z-fits : mag z < 2 ^ hbits w32) where
+module _ {M : Type 1} (𝓤 : URA M) (H : Heap 𝓤) (A : Atoms 𝓤) (W : Given 𝓤 H A) (mem : Memory → SProp 𝓤) (run : Routine → Fun 𝓤) (κ : Lft) (q : Share) (b o : ℕ) (γ : GName) (ys : List Pair) (e : Basis) (z : ℤ) (z-fits : mag z < 2 ^ hbits w32) where
   abbrev n : ℕ
   n = length ys
 

@@ -85,7 +85,7 @@ unfolding interceptOf
 returns c =
     let s = c .before in
     let a = s .args in
-    A₁ s .reads ∙ zero-minus (BZ s .num) ∙ sym (ap (λ (f : Bool). interceptOf f (a .u) (a .z) (a .b)) (c .if1 .taken))
+    A₁ s .reads ∙ zero-minus (BZ s .num) ∙ sym (ap (λ (f : Bool). interceptOf (a .edition) f (a .u) (a .z) (a .b)) (c .if1 .taken))
 
 mul-near : tie.Need-mul-near
 mul-near c = let s = c .before .before .before in mul-need K (Y s) (KY s .fit)
@@ -111,7 +111,7 @@ returns-2 c =
     let a = s .args in
     toZ-ofZ (record { sfits = c .near .ok })
     ∙ c .near .ensures
-    ∙ rw (M s .reads, N s .reads) (sym (ap (λ (f : Bool). interceptOf f (a .u) (a .z) (a .b)) (c .before .before .before .before .before .before .if1 .left)))
+    ∙ rw (M s .reads, N s .reads) (sym (ap (λ (f : Bool). interceptOf (a .edition) f (a .u) (a .z) (a .b)) (c .before .before .before .before .before .before .if1 .left)))
 
 pub intercept-spec : {M : Type 1} → statement M
 intercept-spec =

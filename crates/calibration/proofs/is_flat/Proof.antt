@@ -26,24 +26,24 @@ use Rattle.calibration.proofs.is_flat.Statement.{statement}
 use Rattle.calibration.proofs.is_flat.Tie as tie
 
 abbrev Inv-loop : tie.InvT-loop
-Inv-loop n q pairs s₀ i₀ s i =
+Inv-loop edition n q pairs s₀ i₀ s i =
     (i ≤ n)
     × Spanned 33600000 s
-    × (spanFrom s (map (measuredOf (q .oxygen)) (drop i (take n pairs))) ≡ spanOf (map (measuredOf (q .oxygen)) (take n pairs)))
+    × (spanFrom s (map (measuredOf edition (q .oxygen)) (drop i (take n pairs))) ≡ spanOf (map (measuredOf edition (q .oxygen)) (take n pairs)))
 
 abbrev μ-loop : tie.MeasureT-loop
-μ-loop n q pairs s₀ i₀ s i = n - i
+μ-loop edition n q pairs s₀ i₀ s i = n - i
 
 -- ---- the pairs and their y'
 module _ (c : tie.Start Inv-loop μ-loop) where
-  enough : c .args .n ≤ length (c .args .t1)
-  enough = let e : length (c .args .t1) ≡ 30 = search needs in omega (arith, c .pre .1)
+  enough : c .args .n ≤ length (c .args .t2)
+  enough = let e : length (c .args .t2) ≡ 30 = search needs in omega (arith, c .pre .1)
 
   abbrev pair : ℕ → Pair
-  pair i = getD (c .args .t1) i unset
+  pair i = getD (c .args .t2) i unset
 
   ranged : (i : ℕ) → i < c .args .n → PairRanged (pair i)
-  ranged i h = pair-ranged (c .args .t1) (c .args .n) enough (c .pre .2) i h
+  ranged i h = pair-ranged (c .args .t2) (c .args .n) enough (c .pre .2) i h
 
   oxygen : toZ w32 (ofZ w32 (c .args .q .oxygen)) ≡ c .args .q .oxygen
   oxygen = oxygen-reads (c .pre .3)
@@ -51,11 +51,11 @@ module _ (c : tie.Start Inv-loop μ-loop) where
   asks : (i : ℕ) → i < c .args .n → OxygenRanged (toZ w32 (ofZ w32 (c .args .q .oxygen))) × PairRanged (pair i)
   asks i h = (rw oxygen (c .pre .3 .oxygen), ranged i h)
 
-  gives : {v : Standard} (i : ℕ) → v ≡ measuredOf (toZ w32 (ofZ w32 (c .args .q .oxygen))) (pair i) → v ≡ measuredOf (c .args .q .oxygen) (pair i)
-  gives i e = e ∙ ap (λ (o : ℤ). measuredOf o (pair i)) oxygen
+  gives : {v : Standard} (i : ℕ) → v ≡ measuredOf (c .args .edition) (toZ w32 (ofZ w32 (c .args .q .oxygen))) (pair i) → v ≡ measuredOf (c .args .edition) (c .args .q .oxygen) (pair i)
+  gives i e = e ∙ ap (λ (o : ℤ). measuredOf (c .args .edition) o (pair i)) oxygen
 
-  sized : (i : ℕ) → i < c .args .n → natAbs (measuredOf (c .args .q .oxygen) (pair i) .0) ≤ 33600000
-  sized i h = measured-bound (c .pre .3 .oxygen) (ranged i h)
+  sized : (i : ℕ) → i < c .args .n → natAbs (measuredOf (c .args .edition) (c .args .q .oxygen) (pair i) .0) ≤ 33600000
+  sized i h = measured-bound (c .args .edition) (c .pre .3 .oxygen) (ranged i h)
 
 -- ---- the loop
 array-copy-out-measured : tie.Need-array-copy-out-measured Inv-loop μ-loop
@@ -70,7 +70,7 @@ loop-holds c =
     let s = c .before .before .before in
     let e = gives s 0 (c .measured .ensures) in
     let h = sized s 0 (s .pre .0) in
-    (omega (arith, s .pre .0), rw e (record { low = h; high = h }), rw (e, next (s .args .t1) (s .args .n) (enough s) 0 unset (s .pre .0)))
+    (omega (arith, s .pre .0), rw e (record { low = h; high = h }), rw (e, next (s .args .t2) (s .args .n) (enough s) 0 unset (s .pre .0)))
 
 cast-p : tie.Need-cast-p Inv-loop μ-loop
 cast-p c = search needs
@@ -102,17 +102,17 @@ loop-again c =
     let s = t .before .before .before .before .before in
     let h = t .loop-test .taken in
     let e = gives s (l .i) (c .before .measured2 .ensures) in
-    let v = measuredOf (s .args .q .oxygen) (pair s (l .i)) in
-    let left = rw (next (s .args .t1) (s .args .n) (enough s) (l .i) unset h) at (l .inv .2) in
+    let v = measuredOf (s .args .edition) (s .args .q .oxygen) (pair s (l .i)) in
+    let left = rw (next (s .args .t2) (s .args .n) (enough s) (l .i) unset h) at (l .inv .2) in
     (omega arith, rw (c .widened .ensures, e) (widened-spanned v (l .inv .1) (sized s (l .i) h)), rw (c .widened .ensures, e) left)
 
 -- ---- the test
 whole : (c : tie.After-loop Inv-loop μ-loop) →
     let a = c .before .before .before .before .before .args in
-    c .before .loop .s ≡ spanOf (map (measuredOf (a .q .oxygen)) (take (a .n) (a .t1)))
+    c .before .loop .s ≡ spanOf (map (measuredOf (a .edition) (a .q .oxygen)) (take (a .n) (a .t2)))
 whole c =
     let s = c .before .before .before .before .before in
-    rw (passed (s .args .t1) (s .args .n) (enough s) (c .before .loop .i) (c .loop-test .left)) at (c .before .loop .inv .2)
+    rw (passed (s .args .t2) (s .args .n) (enough s) (c .before .loop .i) (c .loop-test .left)) at (c .before .loop .inv .2)
 
 abbrev K : Loc w64
 K = lit 100 (lit< tt)

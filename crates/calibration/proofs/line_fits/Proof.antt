@@ -8,7 +8,8 @@ use lib.IntN.{ℤ, natAbs}
 use lib.ListN.{length, take}
 use mir.Syntax.{w32}
 use mir.Val.{toZ, ofZ}
-use Rattle.calibration.specs.PairLaws.{oxygen-reads, sigma-need, sigma-reads, sigma-small, sigma-is}
+use mir.Facts.{toZ-ofZ}
+use Rattle.calibration.specs.PairLaws.{between-fits, oxygen-reads, sigma-need, sigma-reads, sigma-small, sigma-is}
 use Rattle.calibration.specs.Calibration.{someBeyond, deviationsOf, qOf, residualsOf, topOf}
 use Rattle.calibration.specs.ListLaws.{count-is}
 use Rattle.calibration.specs.VerdictLaws.{Dispersed, dispersed, pairs-of-pairs, line-beyond, line-stands}
@@ -17,7 +18,7 @@ use Rattle.calibration.specs.declared.Residuals.{Residuals}
 use Rattle.calibration.proofs.line_fits.Statement.{statement}
 use Rattle.calibration.proofs.line_fits.Tie as tie
 
--- ---- the pairs and the reference oxygen
+-- ---- the pairs, the reference oxygen and the limit
 module _ (c : tie.Start) where
   abbrev ps : List Pair
   ps = take (c .args .n) (c .args .pairs)
@@ -28,22 +29,25 @@ module _ (c : tie.Start) where
   oxygen : toZ w32 (ofZ w32 (c .args .q .oxygen)) ≡ c .args .q .oxygen
   oxygen = oxygen-reads (c .pre .3)
 
--- ---- what was asked and learnt
-beyond-is : (c : tie.After-beyond) → let s = c .before .before in c .beyond .result ≡ someBeyond (s .args .q .oxygen) (s .args .l) (ps s)
-beyond-is c = let s = c .before .before in c .beyond .ensures ∙ ap (λ (o : ℤ). someBeyond o (s .args .l) (ps s)) (oxygen s)
+  limit : toZ w32 (ofZ w32 (c .args .q .limit)) ≡ c .args .q .limit
+  limit = toZ-ofZ (between-fits tt (c .pre .3 .limit))
 
-near : (c : tie.Else1) → let s = c .before .before .before in someBeyond (s .args .q .oxygen) (s .args .l) (ps s) ≡ false
+-- ---- what was asked and learnt
+beyond-is : (c : tie.After-beyond) → let s = c .before .before in c .beyond .result ≡ someBeyond (s .args .edition) (s .args .q .oxygen) (s .args .l) (ps s)
+beyond-is c = let s = c .before .before in c .beyond .ensures ∙ ap (λ (o : ℤ). someBeyond (s .args .edition) o (s .args .l) (ps s)) (oxygen s)
+
+near : (c : tie.Else1) → let s = c .before .before .before in someBeyond (s .args .edition) (s .args .q .oxygen) (s .args .l) (ps s) ≡ false
 near c = sym (beyond-is (c .before)) ∙ c .if1 .left
 
 module _ (c : tie.After-pair-residuals) where
   abbrev s₁ : tie.Start
   s₁ = c .before .before .before .before .before
 
-  residuals-are : c .pair-residuals .result ≡ residualsOf (s₁ .args .q .oxygen) (s₁ .args .l) (ps s₁)
-  residuals-are = c .pair-residuals .ensures ∙ ap (λ (o : ℤ). residualsOf o (s₁ .args .l) (ps s₁)) (oxygen s₁)
+  residuals-are : c .pair-residuals .result ≡ residualsOf (s₁ .args .edition) (s₁ .args .q .oxygen) (s₁ .args .l) (ps s₁)
+  residuals-are = c .pair-residuals .ensures ∙ ap (λ (o : ℤ). residualsOf (s₁ .args .edition) o (s₁ .args .l) (ps s₁)) (oxygen s₁)
 
-  spread : Dispersed (s₁ .args .n) (c .pair-residuals .result) (qOf (deviationsOf (s₁ .args .q .oxygen) (s₁ .args .l) (ps s₁)))
-  spread = dispersed (s₁ .args .q .oxygen) (s₁ .args .l) (ps s₁) (s₁ .args .n) (counted s₁) (s₁ .pre .0) (s₁ .pre .1) (near (c .before .before)) residuals-are
+  spread : Dispersed (s₁ .args .n) (c .pair-residuals .result) (qOf (deviationsOf (s₁ .args .edition) (s₁ .args .q .oxygen) (s₁ .args .l) (ps s₁)))
+  spread = dispersed (s₁ .args .edition) (s₁ .args .q .oxygen) (s₁ .args .l) (ps s₁) (s₁ .args .n) (counted s₁) (s₁ .pre .0) (s₁ .pre .1) (near (c .before .before)) residuals-are
 
 -- ---- the needs
 beyond-requires : tie.Need-beyond-requires
@@ -55,7 +59,7 @@ refused-fit-requires c κs = search needs
 returns : tie.Need-returns
 returns c =
     let s = c .before .before .before .before in
-    c .refused-fit .ensures ∙ sym (line-beyond (s .args .q) (ps s) (s .args .l) (sym (beyond-is (c .before .before)) ∙ c .before .if1 .taken))
+    c .refused-fit .ensures ∙ sym (line-beyond (s .args .edition) (s .args .q) (ps s) (s .args .l) (sym (beyond-is (c .before .before)) ∙ c .before .if1 .taken))
 
 pair-residuals-requires : tie.Need-pair-residuals-requires
 pair-residuals-requires c κs =
@@ -85,17 +89,24 @@ varied-requires c κs =
     (omega arith, pairs-of-pairs (s .args .n) (s .pre .1), sigma-small (s .pre .3), c .before .k-factor .ensures .1)
 
 top-requires : tie.Need-top-requires
-top-requires c κs = spread (c .before .before .before .before .before .before) .most
+top-requires c κs =
+    let p = c .before .before .before .before .before .before .before in
+    let s = s₁ p in
+    (spread p .most, rw (limit s) (s .pre .3 .limit))
 
 returns-2 : tie.Need-returns-2
 returns-2 c =
-    let d = c .before .before in
+    let v = c .before .before in
+    let d = v .before in
     let p = d .before .before .before .before .before in
     let s = s₁ p in
     let a = s .args in
-    line-stands (a .q) (ps s) (a .l) (a .n) (d .dispersion .result) (natAbs (a .q .uncertainty)) (near (p .before .before)) (counted s) (d .dispersion .ensures ∙ spread p .is) (sigma-is (s .pre .3))
-    (c .before .varied .result) (c .before .varied .ensures ∙ rw (sigma-reads (s .pre .3), d .before .k-factor .ensures .0))
-    (c .top .result) (c .top .ensures ∙ ap (λ (r : Residuals). topOf (r .most)) (residuals-are p))
+    line-stands (a .edition) (a .q) (ps s) (a .l) (a .n) (d .dispersion .result) (natAbs (a .q .uncertainty)) (near (p .before .before)) (counted s) (d .dispersion .ensures ∙ spread p .is) (sigma-is (s .pre .3))
+    (v .varied .result) (v .varied .ensures ∙ rw (sigma-reads (s .pre .3), d .before .k-factor .ensures .0))
+    (c .top .result)
+    (c .top .ensures
+    ∙ ap (λ (e : ℤ). topOf (a .edition) e (p .pair-residuals .result .most)) (limit s)
+    ∙ ap (λ (r : Residuals). topOf (a .edition) (a .q .limit) (r .most)) (residuals-are p))
 
 pub line-fits-spec : {M : Type 1} → statement M
 line-fits-spec =

@@ -18,40 +18,40 @@ use Rattle.calibration.proofs.pair_residuals.Statement.{statement}
 use Rattle.calibration.proofs.pair_residuals.Tie as tie
 
 abbrev Inv-loop : tie.InvT-loop
-Inv-loop n reference l pairs r₀ i₀ r i =
+Inv-loop edition n reference l pairs r₀ i₀ r i =
     (i ≤ n)
     × ResidualsRanged i r
-    × (foldl (withPair (toZ w32 reference) l) r (drop i (take n pairs)) ≡ residualsOf (toZ w32 reference) l (take n pairs))
+    × (foldl (withPair edition (toZ w32 reference) l) r (drop i (take n pairs)) ≡ residualsOf edition (toZ w32 reference) l (take n pairs))
 
 abbrev μ-loop : tie.MeasureT-loop
-μ-loop n reference l pairs r₀ i₀ r i = n - i
+μ-loop edition n reference l pairs r₀ i₀ r i = n - i
 
 module _ (c : tie.Start Inv-loop μ-loop) where
   back : toZ w32 (ofZ w32 (c .args .reference)) ≡ c .args .reference
   back = toZ-ofZ (c .fits .reference)
 
-  enough : c .args .n ≤ length (c .args .t1)
-  enough = let e : length (c .args .t1) ≡ 30 = search needs in omega (arith, c .pre .1)
+  enough : c .args .n ≤ length (c .args .t2)
+  enough = let e : length (c .args .t2) ≡ 30 = search needs in omega (arith, c .pre .1)
 
   abbrev pair : ℕ → Pair
-  pair i = getD (c .args .t1) i unset
+  pair i = getD (c .args .t2) i unset
 
   ranged : (i : ℕ) → i < c .args .n → PairRanged (pair i)
-  ranged i h = pair-ranged (c .args .t1) (c .args .n) enough (c .pre .2) i h
+  ranged i h = pair-ranged (c .args .t2) (c .args .n) enough (c .pre .2) i h
 
-  near : (i : ℕ) → i < c .args .n → beyondOf (toZ w32 (ofZ w32 (c .args .reference))) (c .args .l) (pair i) ≡ false
-  near i h = rw back (near-at (c .args .reference) (c .args .l) (c .args .t1) (c .args .n) enough (c .pre .5) i h)
+  near : (i : ℕ) → i < c .args .n → beyondOf (c .args .edition) (toZ w32 (ofZ w32 (c .args .reference))) (c .args .l) (pair i) ≡ false
+  near i h = rw back (near-at (c .args .edition) (c .args .reference) (c .args .l) (c .args .t2) (c .args .n) enough (c .pre .5) i h)
 
 -- y' and c of a turn's pair
 not-far-pair : (c : tie.In-loop Inv-loop μ-loop) →
     let s = c .before .before .before .before in
     let o = toZ w32 (ofZ w32 (s .args .reference)) in
     let p = pair s (c .before .loop .i) in
-    (farOf (measuredOf o p) ≡ false) × (farOf (cOf o (s .args .l) p) ≡ false)
+    (farOf (measuredOf (s .args .edition) o p) ≡ false) × (farOf (cOf (s .args .edition) o (s .args .l) p) ≡ false)
 not-far-pair c =
     let s = c .before .before .before .before in
     let i = c .before .loop .i in
-    pair-near (toZ w32 (ofZ w32 (s .args .reference))) (s .args .l) (pair s i) (near s i (c .loop-test .taken))
+    pair-near (s .args .edition) (toZ w32 (ofZ w32 (s .args .reference))) (s .args .l) (pair s i) (near s i (c .loop-test .taken))
 
 array-copy-out-fitted-value : tie.Need-array-copy-out-fitted-value Inv-loop μ-loop
 array-copy-out-fitted-value c = search needs
@@ -64,9 +64,9 @@ loop-holds c =
     let s = c .before .before in
     let e = c .fitted-value .ensures in
     let o = toZ w32 (ofZ w32 (s .args .reference)) in
-    let first = next (s .args .t1) (s .args .n) (enough s) 0 unset (s .pre .0) in
-    let rest = drop 1 (take (s .args .n) (s .args .t1)) in
-    (omega arith, rw e (begun-ranged o (s .args .l) (pair s 0) (near s 0 (s .pre .0))), rw (e, first) (residuals-from o (s .args .l) (pair s 0) rest))
+    let first = next (s .args .t2) (s .args .n) (enough s) 0 unset (s .pre .0) in
+    let rest = drop 1 (take (s .args .n) (s .args .t2)) in
+    (omega arith, rw e (begun-ranged (s .args .edition) o (s .args .l) (pair s 0) (near s 0 (s .pre .0))), rw (e, first) (residuals-from (s .args .edition) o (s .args .l) (pair s 0) rest))
 
 cast-p : tie.Need-cast-p Inv-loop μ-loop
 cast-p c = search needs
@@ -111,14 +111,14 @@ loop-again c =
     let o = toZ w32 (ofZ w32 (s .args .reference)) in
     let p = pair s (l .i) in
     let f = not-far-pair t in
-    let e : c .with-residual .result ≡ withPair o (s .args .l) (l .r) p = c .with-residual .ensures ∙ rw (c .before .before .measured .ensures, c .before .fitted-value2 .ensures) in
-    let left = rw (next (s .args .t1) (s .args .n) (enough s) (l .i) unset (t .loop-test .taken)) at (l .inv .2) in
-    (omega arith, rw e (with-residual-ranged (measuredOf o p) (cOf o (s .args .l) p) (l .inv .1) (f .0) (f .1)), rw e left)
+    let e : c .with-residual .result ≡ withPair (s .args .edition) o (s .args .l) (l .r) p = c .with-residual .ensures ∙ rw (c .before .before .measured .ensures, c .before .fitted-value2 .ensures) in
+    let left = rw (next (s .args .t2) (s .args .n) (enough s) (l .i) unset (t .loop-test .taken)) at (l .inv .2) in
+    (omega arith, rw e (with-residual-ranged (measuredOf (s .args .edition) o p) (cOf (s .args .edition) o (s .args .l) p) (l .inv .1) (f .0) (f .1)), rw e left)
 
 returns : tie.Need-returns Inv-loop μ-loop
 returns c =
     let s = c .before .before .before .before in
-    let done = rw (passed (s .args .t1) (s .args .n) (enough s) (c .before .loop .i) (c .loop-test .left)) at (c .before .loop .inv .2) in
+    let done = rw (passed (s .args .t2) (s .args .n) (enough s) (c .before .loop .i) (c .loop-test .left)) at (c .before .loop .inv .2) in
     rw (back s) at done
 
 pub pair-residuals-spec : {M : Type 1} → statement M

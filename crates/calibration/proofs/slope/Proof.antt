@@ -38,17 +38,17 @@ above c = le-false (M (c .before)) Zero (c .if1 .left)
 
 quotient : (c : tie.After-near-unsigned) →
     let a = c .before .before .args in
-    pos (c .near-unsigned .result) ≡ nearOf (pos 100000 *ℤ a .rise) (a .divisor)
+    pos (c .near-unsigned .result) ≡ nearOf (a .edition) (pos 100000 *ℤ a .rise) (a .divisor)
 quotient c =
     let s = c .before .before in
     c .near-unsigned .ensures
-    ∙ ap (λ (n : ℕ). nearOf (pos (100000 * n)) (pos (natAbs (toZ w64 (D s .bits))))) (cast-u (M s))
-    ∙ ap (λ (n : ℕ). nearOf (pos (100000 * natAbs (s .args .rise))) (pos n)) (cast-u (D s))
-    ∙ ap (λ (z : ℤ). nearOf (pos 100000 *ℤ z) (pos (natAbs (s .args .divisor)))) (sized (above (c .before)))
-    ∙ ap (λ (z : ℤ). nearOf (pos 100000 *ℤ s .args .rise) z) (sized (d-pos s))
+    ∙ ap (λ (n : ℕ). nearOf (s .args .edition) (pos (100000 * n)) (pos (natAbs (toZ w64 (D s .bits))))) (cast-u (M s))
+    ∙ ap (λ (n : ℕ). nearOf (s .args .edition) (pos (100000 * natAbs (s .args .rise))) (pos n)) (cast-u (D s))
+    ∙ ap (λ (z : ℤ). nearOf (s .args .edition) (pos 100000 *ℤ z) (pos (natAbs (s .args .divisor)))) (sized (above (c .before)))
+    ∙ ap (λ (z : ℤ). nearOf (s .args .edition) (pos 100000 *ℤ s .args .rise) z) (sized (d-pos s))
 
 returns : tie.Need-returns
-returns c = sym (slope-none (c .before .args .rise) (c .before .args .divisor) (le-true (M (c .before)) Zero (c .if1 .taken)) (d-pos (c .before)))
+returns c = sym (slope-none (c .before .args .edition) (c .before .args .rise) (c .before .args .divisor) (le-true (M (c .before)) Zero (c .if1 .taken)) (d-pos (c .before)))
 
 cast-near-unsigned : tie.Need-cast-near-unsigned
 cast-near-unsigned c = cast-u-need w64 (M (c .before)) (ud-le (omega (arith, lt-ud (above c)))) (omega arith)
@@ -66,7 +66,7 @@ returns-2 : tie.Need-returns-2
 returns-2 c =
     let n = c .before in
     let a = n .before .before .args in
-    sym (slope-steep (a .rise) (a .divisor) (n .near-unsigned .result) (quotient n) (c .if2 .taken))
+    sym (slope-steep (a .edition) (a .rise) (a .divisor) (n .near-unsigned .result) (quotient n) (c .if2 .taken))
 
 cast-result : tie.Need-cast-result
 cast-result c = search needs
@@ -75,7 +75,7 @@ returns-3 : tie.Need-returns-3
 returns-3 c =
     let n = c .before in
     let a = n .before .before .args in
-    toZ-pos w32 (omega (arith, c .if2 .left)) ∙ sym (slope-fits (a .rise) (a .divisor) (n .near-unsigned .result) (quotient n) (c .if2 .left))
+    toZ-pos w32 (omega (arith, c .if2 .left)) ∙ sym (slope-fits (a .edition) (a .rise) (a .divisor) (n .near-unsigned .result) (quotient n) (c .if2 .left))
 
 pub slope-spec : {M : Type 1} → statement M
 slope-spec =

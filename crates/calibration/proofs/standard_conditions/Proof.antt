@@ -24,18 +24,18 @@ record Call (f m : ℕ) : Type 0 where
   factor : Factor f (n .num) (d .num)
   sized : Sized m (v .num)
 
-record Product {f m : ℕ} (K : Call f m) (x : ℤ) : Type 0 where
-  is : x ≡ timesOf (K .v .num) (K .n .num) (K .d .num)
+record Product (edition : ℕ) {f m : ℕ} (K : Call f m) (x : ℤ) : Type 0 where
+  is : x ≡ timesOf edition (K .v .num) (K .n .num) (K .d .num)
   sized : Sized (f * m) x
 
 module _ {f m : ℕ} (K : Call f m) where
   asks : m ≤ 2 ^ 40 → (natAbs (toZ w64 (K .v .bits)) ≤ 2 ^ 40) × (natAbs (toZ w64 (K .n .bits)) ≤ 2 ^ 20) × (pos 0 <ℤ toZ w64 (K .d .bits)) × (natAbs (toZ w64 (K .d .bits)) ≤ 2 ^ 20)
   asks h = rw (K .v .reads, K .n .reads, K .d .reads) (omega (arith, K .sized .size), K .factor .numerator, K .factor .above, K .factor .divisor)
 
-  gives : {x : ℤ} → x ≡ timesOf (toZ w64 (K .v .bits)) (toZ w64 (K .n .bits)) (toZ w64 (K .d .bits)) → Product K x
-  gives {x} e =
-      let i : x ≡ timesOf (K .v .num) (K .n .num) (K .d .num) = rw (K .v .reads, K .n .reads, K .d .reads) at e in
-      record { is = i; sized = rw i (times-sized (K .factor) (K .sized)) }
+  gives : (edition : ℕ) {x : ℤ} → x ≡ timesOf edition (toZ w64 (K .v .bits)) (toZ w64 (K .n .bits)) (toZ w64 (K .d .bits)) → Product edition K x
+  gives edition {x} e =
+      let i : x ≡ timesOf edition (K .v .num) (K .n .num) (K .d .num) = rw (K .v .reads, K .n .reads, K .d .reads) at e in
+      record { is = i; sized = rw i (times-sized edition (K .factor) (K .sized)) }
 
 -- ---- the arguments: the literals, the fields as i64, the numerators and the divisors
 abbrev D₁ : Loc w64
@@ -113,8 +113,8 @@ start₄ c = start₃ (c .before)
 abbrev call₁ : tie.After-struct-told2 → Call 3 8000000
 call₁ c = let s = start₁ c in record { v = V₀ s; n = N₁ s; d = D₁; factor = temperature-factor (C s); sized = v-sized s }
 
-t : (c : tie.After-times) → Product (call₁ (c .before)) (c .times .result)
-t c = gives (call₁ (c .before)) (c .times .ensures)
+t : (c : tie.After-times) → Product (start₁ (c .before) .args .edition) (call₁ (c .before)) (c .times .result)
+t c = gives (call₁ (c .before)) _ (c .times .ensures)
 
 abbrev call₂ : tie.After-struct-told3 → Call 2 (3 * 8000000)
 call₂ c =
@@ -122,8 +122,8 @@ call₂ c =
     let s = start₂ c in
     record { v = arg (b .times .result) (record { sfits = b .times .ok }); n = N₂; d = D₂ s; factor = pressure-factor (C s); sized = t b .sized }
 
-p : (c : tie.After-times2) → Product (call₂ (c .before)) (c .times2 .result)
-p c = gives (call₂ (c .before)) (c .times2 .ensures)
+p : (c : tie.After-times2) → Product (start₂ (c .before) .args .edition) (call₂ (c .before)) (c .times2 .result)
+p c = gives (call₂ (c .before)) _ (c .times2 .ensures)
 
 abbrev call₃ : tie.After-struct-told4 → Call 2 (2 * (3 * 8000000))
 call₃ c =
@@ -131,8 +131,8 @@ call₃ c =
     let s = start₃ c in
     record { v = arg (b .times2 .result) (record { sfits = b .times2 .ok }); n = N₃; d = D₃ s; factor = water-factor (C s); sized = p b .sized }
 
-h : (c : tie.After-times3) → Product (call₃ (c .before)) (c .times3 .result)
-h c = gives (call₃ (c .before)) (c .times3 .ensures)
+h : (c : tie.After-times3) → Product (start₃ (c .before) .args .edition) (call₃ (c .before)) (c .times3 .result)
+h c = gives (call₃ (c .before)) _ (c .times3 .ensures)
 
 abbrev call₄ : tie.After-struct-told5 → Call 7 (2 * (2 * (3 * 8000000)))
 call₄ c =
@@ -140,8 +140,8 @@ call₄ c =
     let s = start₄ b in
     record { v = arg (b .times3 .result) (record { sfits = b .times3 .ok }); n = N₄ s; d = D₄ s; factor = oxygen-factor (C s) (R s); sized = h b .sized }
 
-o : (c : tie.After-times4) → Product (call₄ (c .before)) (c .times4 .result)
-o c = gives (call₄ (c .before)) (c .times4 .ensures)
+o : (c : tie.After-times4) → Product (start₄ (c .before .before .before) .args .edition) (call₄ (c .before)) (c .times4 .result)
+o c = gives (call₄ (c .before)) _ (c .times4 .ensures)
 
 -- the last result, and the same as i32
 abbrev O : tie.After-times4 → Loc w64
@@ -196,8 +196,8 @@ sub-times-3 c = let s = start₄ (c .before .before) in sub-need Air (O₀ s) (D
 times-requires-4 : tie.Need-times-requires-4
 times-requires-4 c κs = asks (call₄ c) (omega arith)
 
-cast-t12 : tie.Need-cast-t12
-cast-t12 c = cast-need w32 (O c) (Y c .fit)
+cast-t13 : tie.Need-cast-t13
+cast-t13 c = cast-need w32 (O c) (Y c .fit)
 
 returns : tie.Need-returns
 unfolding standardOf
@@ -226,5 +226,5 @@ standard-conditions-spec =
     cast-times-6
     sub-times-3
     times-requires-4
-    cast-t12
+    cast-t13
     returns)

@@ -1,62 +1,63 @@
 -- `calibration::top` meets its contract.
-use mathlib.Core.Path.{_≡_, ap, _∙_}
-use Prim.Native.Nat.{_≤_}
+use borrow.Author.Needs.{needs}
+use borrow.Author.Tests.{eq-eqb, ne-eqb}
+use mathlib.Core.Path.{_≡_, sym, ap, _∙_}
 use native.Mathlib.Omega.{arith}
-use lib.Dec.{lit<}
-use lib.IntN.{ℤ, pos, natAbs, _*ℤ_}
-use mir.Syntax.{w32, w64}
-use mir.Val.{SFits}
-use Rattle.charts.specs.Integers.{ints, abs-sfits}
-use Rattle.charts.specs.SignedLocals.{Loc, arg, lit, mul, mul-need, cast, cast-need}
-use Rattle.charts.specs.Rounding.{nearOf}
-use Rattle.charts.specs.RoundingLaws.{near-bound}
-use Rattle.calibration.specs.PairLaws.{between-abs, between-fits, wide, wide-need}
-use Rattle.calibration.specs.FitLaws.{product-size}
+use lib.Dec.{eqb}
+use lib.IntN.{pos}
+use mir.Syntax.{w32}
+use mir.Val.{toZ, ofZ}
+use mir.Facts.{toZ-ofZ}
+use Rattle.charts.specs.Tests.{if-yes, if-no}
+use Rattle.calibration.specs.Calibration.{topOf, shareOf, higherOf}
+use Rattle.calibration.specs.PairLaws.{between-abs, between-fits}
 use Rattle.calibration.specs.ResidualLaws.{not-far}
+use Rattle.calibration.specs.declared.Standard.{Standard}
 use Rattle.calibration.proofs.top.Statement.{statement}
 use Rattle.calibration.proofs.top.Tie as tie
 
-abbrev K : Loc w64
-K = lit 110 (lit< tt)
-
 module _ (c : tie.Start) where
-  abbrev M : Loc w64
-  M = wide (c .args .most .0) (between-fits tt (not-far (c .args .most) (c .pre)))
+  most-back : toZ w32 (ofZ w32 (c .args .most .0)) ≡ c .args .most .0
+  most-back = toZ-ofZ (between-fits tt (not-far (c .args .most) (c .pre .0)))
 
-  small : natAbs (K .num *ℤ M .num) ≤ 1100000000
-  small = product-size {m = 110} (K .num) (M .num) (omega arith) (between-abs (not-far (c .args .most) (c .pre)))
+  limit-back : toZ w32 (ofZ w32 (c .args .limit)) ≡ c .args .limit
+  limit-back = toZ-ofZ (c .fits .limit)
 
-  abbrev KM : Loc w64
-  KM = mul K M (abs-sfits (omega (arith, small)))
+first-is : (c : tie.After-share) → let a = c .before .before .args in c .share .result ≡ shareOf (a .edition) (pos 110) (a .most .0)
+first-is c = let s = c .before .before in c .share .ensures ∙ ap (shareOf (s .args .edition) (pos 110)) (most-back s)
 
-abbrev start : tie.After-struct-told → tie.Start
-start c = c .before .before
+second-is : (c : tie.After-share2) → let a = c .before .before .before .before .args in c .share2 .result ≡ shareOf (a .edition) (pos 20) (a .limit)
+second-is c = let s = c .before .before .before .before in c .share2 .ensures ∙ ap (shareOf (s .args .edition) (pos 20)) (limit-back s)
 
-is : (c : tie.After-near) → c .near .result ≡ nearOf (pos 110 *ℤ start (c .before) .args .most .0) (pos 100)
-is c = c .near .ensures ∙ ap (λ (v : ℤ). nearOf v (pos 100)) (KM (start (c .before)) .reads)
-
-fits : (c : tie.After-near) → SFits w32 (c .near .result)
-fits c =
-    let s = start (c .before) in
-    rw (is c) (abs-sfits (omega (arith, near-bound (KM s .num) (pos 100) 11000000 (omega ints) (omega (arith, small s)))))
-
-abbrev R : tie.After-near → Loc w64
-R c = arg (c .near .result) (record { sfits = c .near .ok })
-
-cast-near : tie.Need-cast-near
-cast-near c = let s = start c in wide-need (between-fits tt (not-far (s .args .most) (s .pre)))
-
-mul-near : tie.Need-mul-near
-mul-near c = let s = start c in mul-need K (M s) (KM s .fit)
-
-near-requires : tie.Need-near-requires
-near-requires c κs = let s = start c in rw (KM s .reads) (omega (arith, small s), omega ints, omega arith)
-
-cast-t5 : tie.Need-cast-t5
-cast-t5 c = cast-need w32 (R c) (fits c)
+share-requires : tie.Need-share-requires
+share-requires c κs =
+    let s = c .before in
+    (omega arith, rw (most-back s) (between-abs (not-far (s .args .most) (s .pre .0))))
 
 returns : tie.Need-returns
-returns c = ap (λ (z : ℤ). record { 0 = z }) (cast w32 (R c) (fits c) .reads ∙ is c)
+unfolding topOf
+returns c =
+    let s = c .before .before .before in
+    first-is (c .before) ∙ sym (if-no (eqb (s .args .edition) 2) _ _ (ne-eqb (s .args .edition) 2 (c .if1 .taken)))
+
+share-requires-2 : tie.Need-share-requires-2
+share-requires-2 c κs =
+    let s = c .before .before .before in
+    (omega arith, rw (limit-back s) (omega (arith, between-abs (s .pre .1))))
+
+higher-requires : tie.Need-higher-requires
+higher-requires c κs = search needs
+
+returns-2 : tie.Need-returns-2
+unfolding topOf
+returns-2 c =
+    let t = c .before in
+    let f = t .before .before in
+    let s = f .before .before in
+    c .higher .ensures
+    ∙ ap (λ (v : Standard). higherOf v (t .share2 .result)) (first-is f)
+    ∙ ap (higherOf (shareOf (s .args .edition) (pos 110) (s .args .most .0))) (second-is t)
+    ∙ sym (if-yes (eqb (s .args .edition) 2) _ _ (eq-eqb (s .args .edition) 2 (t .before .if1 .left)))
 
 pub top-spec : {M : Type 1} → statement M
-top-spec = tie.close (tie.spec cast-near mul-near near-requires cast-t5 returns)
+top-spec = tie.close (tie.spec share-requires returns share-requires-2 higher-requires returns-2)

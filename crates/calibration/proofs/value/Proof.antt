@@ -12,7 +12,7 @@ standard-conditions-requires : tie.Need-standard-conditions-requires
 standard-conditions-requires c κs =
     let s = c .before in
     let a = s .args in
-    (rw (toZ-ofZ (s .fits .reference)) (s .pre .0), s .pre .2, rw (c .calibrated .ensures, toZ-ofZ (s .fits .x)) (calibrated-bound (a .l) (a .x) (s .pre .1) (s .pre .3)))
+    (rw (toZ-ofZ (s .fits .reference)) (s .pre .0), s .pre .2, rw (c .calibrated .ensures, toZ-ofZ (s .fits .x)) (calibrated-bound (a .edition) (a .l) (a .x) (s .pre .1) (s .pre .3)))
 
 returns : tie.Need-returns
 returns c =

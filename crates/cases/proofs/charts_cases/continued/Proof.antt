@@ -6,10 +6,10 @@ use Rattle.cases.proofs.charts_cases.continued.Statement.{statement}
 use Rattle.cases.proofs.charts_cases.continued.Tie as tie
 
 abbrev Inv-loop : tie.InvT-loop
-Inv-loop name s ds c₀ i₀ c i = Unit {0}
+Inv-loop e name s ds c₀ i₀ c i = Unit {0}
 
 abbrev μ-loop : tie.MeasureT-loop
-μ-loop name s ds c₀ i₀ c i = length ds - i
+μ-loop e name s ds c₀ i₀ c i = length ds - i
 
 loop-holds : tie.Need-loop-holds Inv-loop μ-loop
 loop-holds c = search needs

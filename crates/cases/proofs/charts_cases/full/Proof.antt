@@ -5,10 +5,10 @@ use Rattle.cases.proofs.charts_cases.full.Statement.{statement}
 use Rattle.cases.proofs.charts_cases.full.Tie as tie
 
 abbrev Inv-loop : tie.InvT-loop
-Inv-loop name first second c₀ i₀ c i = Unit {0}
+Inv-loop e name first second c₀ i₀ c i = Unit {0}
 
 abbrev μ-loop : tie.MeasureT-loop
-μ-loop name first second c₀ i₀ c i = 50000 - i
+μ-loop e name first second c₀ i₀ c i = 50000 - i
 
 fresh-requires : tie.Need-fresh-requires Inv-loop μ-loop
 fresh-requires c κs = search needs

@@ -56,12 +56,12 @@ use denote.Exit.{yes}
 use denote.Triple.Clauses.{ensured, lasts}
 use Rattle.calibration.specs.LentList.{fitListOf}
 use Rattle.calibration.specs.declared.Pair.{Pair}
-use Rattle.calibration.specs.declared.Requirements.{Requirements}
+use Rattle.calibration.specs.declared.Basis.{Basis}
 use Rattle.calibration.specs.declared.Fitted.{Fitted}
 use Rattle.calibration.proofs.Pair as P
 use Rattle.calibration.proofs.Pair.Laws as P′
-use Rattle.calibration.proofs.Requirements as R
-use Rattle.calibration.proofs.Requirements.Laws as R′
+use Rattle.calibration.proofs.Basis as R
+use Rattle.calibration.proofs.Basis.Laws as R′
 use Rattle.calibration.proofs.Fitted as F
 use Rattle.calibration.proofs.Fitted.Laws as F′
 use Rattle.calibration.proofs.fit_list as fit-list
@@ -150,7 +150,7 @@ module _ {M : Type 1} (𝓤 : URA M) (H : Heap 𝓤) (A : Atoms 𝓤) (W : Given
         rewrite ! 0 (λ (G : Fml). ‵ G) (sym (parts-cells P.the-row fullShare a b 0)) refl $ feqI ! ℕ (length a) size len $ fjoin ! $ done !
 
 module _ {M : Type 1} (𝓤 : URA M) (H : Heap 𝓤) (A : Atoms 𝓤) (W : Given 𝓤 H A) (mem : Memory → SProp 𝓤) (run : Routine → Fun 𝓤)
-    (a : List Pair) (len : length a ≡ size) (u : Val) (typed : Holds (hasTy array u) × WT u) (n : ℕ) (n-fits : n < 2 ^ 64) (e : Requirements) (m : Val) (typed-e : Holds (hasTy R′.mir m) × WT m) (z : ℤ) (z-fits : mag z < 2 ^ hbits w32) where
+    (a : List Pair) (len : length a ≡ size) (u : Val) (typed : Holds (hasTy array u) × WT u) (n : ℕ) (n-fits : n < 2 ^ 64) (e : Basis) (m : Val) (typed-e : Holds (hasTy R′.mir m) × WT m) (z : ℤ) (z-fits : mag z < 2 ^ hbits w32) where
   abbrev nv : Val
   nv = vint w64 n
 

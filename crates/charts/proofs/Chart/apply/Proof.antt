@@ -126,8 +126,8 @@ mul-add-6 c = omega (arith, s-small (c .before .before .before .before .before .
 add-requires-3 : tie.Need-add-requires-3
 add-requires-3 c κs = omega (arith, step-small (c .before .before .before .before .before))
 
-add-t18 : tie.Need-add-t18
-add-t18 c = search needs
+add-t19 : tie.Need-add-t19
+add-t19 c = search needs
 
 adjustment-requires : tie.Need-adjustment-requires
 adjustment-requires c κs = let w = rising-within (c .before .before .before) in omega (arith, w .counted, w .bounded, start (c .before .before .before .before) .pre .1)
@@ -163,7 +163,7 @@ apply-spec =
     mul-add-5
     mul-add-6
     add-requires-3
-    add-t18
+    add-t19
     adjustment-requires
     adjustment-requires-2
     returns)

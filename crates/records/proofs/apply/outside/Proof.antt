@@ -42,7 +42,7 @@ signal-back c = toZ-ofZ (record { sfits = c .field-at .ok }) ∙ c .field-at .en
 value-is : (c : tie.After-value) →
     let k = c .before .before .before .before .before .before in
     let a = k .before .before .before .args in
-    c .value .result ≡ valueOf (a .s .requirements .oxygen) (lineOf (k .k .given .0 .0)) (valueConditions (now (a .r))) (signalOf (now (a .r)))
+    c .value .result ≡ valueOf (a .edition) (a .s .requirements .oxygen) (lineOf (k .k .given .0 .0)) (valueConditions (now (a .r))) (signalOf (now (a .r)))
 unfolding lineOf valueConditions
 value-is c =
     let f = c .before .before in
@@ -53,7 +53,7 @@ value-back : (c : tie.After-value) → toZ w32 (ofZ w32 (c .value .result .0)) �
 value-back c =
     let k = c .before .before .before .before .before .before in
     let s = k .before .before .before in
-    rw (value-is c) (toZ-ofZ (value-fits _ _ _ _ (s .pre .1 .requirements .oxygen) (line k) (fields s .conditions) (fields s .signal)))
+    rw (value-is c) (toZ-ofZ (value-fits _ _ _ _ _ (s .pre .1 .requirements .oxygen) (line k) (fields s .conditions) (fields s .signal)))
 
 top-back : (c : tie.After-struct-told4) → let t = c .before .before .before .before .before .before .before .before .before .before .k .given .0 .0 .top .0 in toZ w32 (ofZ w32 t) ≡ t
 top-back c = toZ-ofZ (search needs)
@@ -84,7 +84,7 @@ value-requires c κs =
 
 returns : tie.Need-returns
 unfolding outsideBy
-returns c = let a = c .before .before .before .args in sym (ap (λ (k : Calibration). outsideBy k (a .s) (now (a .r))) (c .enum-told .given .1))
+returns c = let a = c .before .before .before .args in sym (ap (λ (k : Calibration). outsideBy (a .edition) k (a .s) (now (a .r))) (c .enum-told .given .1))
 
 returns-2 : tie.Need-returns-2
 unfolding outsideBy
@@ -92,7 +92,7 @@ returns-2 c =
     let v = c .before .before .before .before .before .before in
     let k = v .before .before .before .before .before .before in
     let a = k .before .before .before .args in
-    rw (value-back v, top-back (c .before .before), value-is v) (sym (ap (λ (k : Calibration). outsideBy k (a .s) (now (a .r))) (k .k .given .1)))
+    rw (value-back v, top-back (c .before .before), value-is v) (sym (ap (λ (k : Calibration). outsideBy (a .edition) k (a .s) (now (a .r))) (k .k .given .1)))
 
 pub outside-spec : {M : Type 1} → statement M
 outside-spec =

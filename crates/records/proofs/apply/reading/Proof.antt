@@ -59,7 +59,7 @@ returns c =
     let d = t .before in
     let s = d .before .before in
     zero-changes (s .args .st) (now (s .args .r)) (s .pre .week) (t .read32 .result) (time t) (s .pre .is) (i .if1 .taken) (c .apply .result)
-    (c .apply .ensures ∙ ap (appliedOf (s .args .st .zero) (s .args .st .setting .zero)) (back d))
+    (c .apply .ensures ∙ ap (appliedOf (s .args .st .zero) (s .args .st .edition) (s .args .st .setting .zero)) (back d))
 
 apply-requires-2 : tie.Need-apply-requires-2
 unfolding factsOf mark
@@ -85,7 +85,7 @@ returns-2 c =
     let d = t .before in
     let s = d .before .before in
     span-changes (s .args .st) (now (s .args .r)) (s .pre .week) (t .read32 .result) (time t) (s .pre .is) (second i) (c .apply2 .result)
-    (c .apply2 .ensures ∙ ap (appliedOf (s .args .st .span) (s .args .st .setting .span)) (back d))
+    (c .apply2 .ensures ∙ ap (appliedOf (s .args .st .span) (s .args .st .edition) (s .args .st .setting .span)) (back d))
 
 pub reading-spec : {M : Type 1} → statement M
 reading-spec =

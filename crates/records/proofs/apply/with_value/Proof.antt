@@ -22,8 +22,8 @@ returns-2 c =
     let i = c .before .before .before .before .before .before in
     rw (i .before .if1 .left, if-yes _ _ _ (i .if2 .taken))
 
-add-t19 : tie.Need-add-t19
-add-t19 c = search needs
+add-t20 : tie.Need-add-t20
+add-t20 c = search needs
 
 returns-3 : tie.Need-returns-3
 unfolding withValue withTally
@@ -32,4 +32,4 @@ returns-3 c =
     rw (i .before .if1 .left, if-no _ _ _ (i .if2 .left))
 
 pub with-value-spec : {M : Type 1} → statement M
-with-value-spec = tie.close (tie.spec returns add-t5 add-t6 returns-2 add-t19 returns-3)
+with-value-spec = tie.close (tie.spec returns add-t5 add-t6 returns-2 add-t20 returns-3)

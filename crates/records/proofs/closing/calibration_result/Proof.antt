@@ -38,7 +38,7 @@ module _ (s : tie.Start) where
   -- the definition by its two tests
   whole : {few fit : Bool} → countFits (s .args .st .pending) ≡ few → daysFit ws ≡ fit
       → calibrationOf (factsOf (s .args .st)) (s .args .z)
-      ≡ (if not few then refusedFit 20 else if not fit then refusedFit 21 else fitOf (s .args .st .setting .requirements) (s .args .z) (map pairOfWaiting ws))
+      ≡ (if not few then refusedFit 20 else if not fit then refusedFit 21 else fitOf (s .args .st .edition) (s .args .st .setting .requirements) (s .args .z) (map pairOfWaiting ws))
   unfolding calibrationOf factsOf
   whole e f = rw (counted, e, f)
 
@@ -91,8 +91,8 @@ returns-3 c =
     let s = e .before .before in
     let q = s .args .st .setting .requirements in
     c .fit .ensures
-    ∙ ap (λ (z : ℤ). fitOf q z (take (s .args .st .pending) (c .before .figures .result))) (z-back s)
-    ∙ ap (fitOf q (s .args .z)) (figures-are (c .before))
+    ∙ ap (λ (z : ℤ). fitOf (s .args .st .edition) q z (take (s .args .st .pending) (c .before .figures .result))) (z-back s)
+    ∙ ap (fitOf (s .args .st .edition) q (s .args .z)) (figures-are (c .before))
     ∙ sym (whole s (fits e) (sym (d .days-fit .ensures) ∙ not-false (d .days-fit .result) (l .if2 .left)))
 
 pub calibration-result-spec : {M : Type 1} → statement M

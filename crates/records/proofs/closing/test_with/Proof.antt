@@ -48,7 +48,7 @@ returns : tie.Need-returns
 unfolding lineOf
 returns c =
     let s = c .before .before .before .before .before in
-    c .annual-test .ensures ∙ rw (slope-back s, intercept-back s) (ap (testOf (s .args .st .setting .requirements) (lineOf (s .args .f))) (figures-are (c .before .before)))
+    c .annual-test .ensures ∙ rw (slope-back s, intercept-back s) (ap (testOf (s .args .st .edition) (s .args .st .setting .requirements) (lineOf (s .args .f))) (figures-are (c .before .before)))
 
 pub test-with-spec : {M : Type 1} → statement M
 test-with-spec = tie.close (tie.spec figures-requires annual-test-requires returns)
