@@ -11,6 +11,7 @@ pub mod FitLaws
 pub mod CallsLaws
 pub mod Statement
 pub mod StatementLaws
+pub mod EditionLaws
 pub mod RunLaws
 pub mod RoundTrip
 pub mod Answered
