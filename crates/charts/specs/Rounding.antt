@@ -13,8 +13,8 @@ editionKnown edition = eqb edition 1 || eqb edition 2
 unfoldable pub odd : ℤ → Bool
 odd q = eqb (natAbs q % 2) 1
 
--- A number lies r/d above the whole number under it, r below d; `uneven` tells whether that whole number is odd. Whether the next one is taken: it is where r/d
--- is more than a half. Exactly a half goes up, but in edition 2 to whichever neighbour is even.
+-- A number lies r/d above the whole number under it, r below d; `uneven` tells whether that whole number is odd. Whether the next one is taken: it is
+-- where r/d is more than a half. Exactly a half goes up, but in edition 2 to whichever neighbour is even.
 unfoldable pub roundsUp : ℕ → Bool → ℕ → ℕ → Bool
 roundsUp edition uneven r d = ltb d (2 * r) || eqb d (2 * r) && (not (eqb edition 2) || uneven)
 

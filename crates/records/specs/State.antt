@@ -1,5 +1,5 @@
 -- The state (paper 01: the standing): its beginning, its refusal of a record, and what an accepted record makes of it. Its edition (paper 02, C-12) is
--- that of the block in which the next record stands, and between blocks that of the last one: 0 before the first, by which edition 1 rounds too.
+-- that of the block in which the next record stands, and between blocks that of the last one: 0 before the first, which rounds as 1 does.
 use mathlib.Core.Bool.{Bool, true, false, not, _&&_, _||_}
 use mathlib.Core.List.{List, [], _∷_}
 use Prim.Native.Nat.{ℕ, _+_, _*_}
