@@ -35,18 +35,14 @@ pub fn edition_known(edition: u8) -> bool
     (edition == 1) | (edition == 2)
 }
 
-// Whether the next whole number is taken where r/d is left over: above a half, and at a half in edition 2 only from an odd number.
+// Whether the next whole number is taken where r/d is left over: above a half, and at a half in edition 2 only from an odd number. No branch, since
+// rests fall on either side as it comes.
 fn rounds_up(edition: u8, odd: bool, r: u64, d: u64) -> bool
     requires { ⌜ r < d ⌝ }
     ensures { λ b. ⌜ b ≡ roundsUp edition odd r d ⌝ }
 {
-    if r < d - r {
-        return false;
-    }
-    if d - r < r {
-        return true;
-    }
-    (edition != 2) | odd
+    let left = d - r;
+    (left < r) | ((left == r) & ((edition != 2) | odd))
 }
 
 // The whole number nearest to n / d, a half by the rule of the edition, for a signed numerator.

@@ -1,29 +1,32 @@
--- `charts::rounds_up` meets its contract.
+-- `charts::rounds_up` meets its contract: twice the rest against the divisor, which the code tests without the double.
 use borrow.Author.Needs.{needs}
-use borrow.Author.Tests.{lt-ltb, le-ltb, eq-eqb, ne-eqb}
+use borrow.Author.Tests.{eq-eqb, ne-eqb, eqb-true, eqb-false}
+use mathlib.Core.Path.{_≡_, refl, sym, _∙_}
+use mathlib.Core.Bool.{Bool, true, false}
 use native.Mathlib.Omega.{arith}
-use Prim.Native.Nat.{_*_, _-_}
+use Prim.Native.Nat.{ℕ, _*_, _-_, _<_}
+use lib.Dec.{eqb, ltb}
+use Rattle.charts.specs.Tests.{answers-lt, answers-as, same-answer}
 use Rattle.charts.specs.Rounding.{roundsUp}
 use Rattle.charts.proofs.rounds_up.Statement.{statement}
 use Rattle.charts.proofs.rounds_up.Tie as tie
 
-sub-if1 : tie.Need-sub-if1
-sub-if1 c = search needs
+over-half : (r d : ℕ) → r < d → ltb (d - r) r ≡ ltb d (2 * r)
+over-half r d h = same-answer (answers-lt (d - r) r) (answers-as (answers-lt d (2 * r)) (λ k. omega arith) (λ k. omega arith))
+
+at-half : (r d : ℕ) → r < d → eqb (d - r) r ≡ eqb d (2 * r)
+at-half r d h = go (eqb d (2 * r)) refl
+  where
+    go : (b : Bool) → eqb d (2 * r) ≡ b → eqb (d - r) r ≡ eqb d (2 * r)
+    go true e = let k = eqb-true d (2 * r) e in eq-eqb (d - r) r (omega arith) ∙ sym e
+    go false e = let n = eqb-false d (2 * r) e in ne-eqb (d - r) r (λ k. n (omega arith)) ∙ sym e
+
+sub-left : tie.Need-sub-left
+sub-left c = search needs
 
 returns : tie.Need-returns
 unfolding roundsUp
-returns c = let a = c .before .args in rw (le-ltb (a .d) (2 * a .r) (omega arith), ne-eqb (a .d) (2 * a .r) (λ e. omega arith))
-
-sub-if2 : tie.Need-sub-if2
-sub-if2 c = search needs
-
-returns-2 : tie.Need-returns-2
-unfolding roundsUp
-returns-2 c = let a = c .before .before .args in rw (lt-ltb (a .d) (2 * a .r) (omega arith))
-
-returns-3 : tie.Need-returns-3
-unfolding roundsUp
-returns-3 c = let a = c .before .before .args in rw (le-ltb (a .d) (2 * a .r) (omega arith), eq-eqb (a .d) (2 * a .r) (omega arith))
+returns c = let a = c .args in rw (over-half (a .r) (a .d) (c .pre), at-half (a .r) (a .d) (c .pre))
 
 pub rounds-up-spec : {M : Type 1} → statement M
-rounds-up-spec = tie.close (tie.spec sub-if1 returns sub-if2 returns-2 returns-3)
+rounds-up-spec = tie.close (tie.spec sub-left returns)
