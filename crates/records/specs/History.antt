@@ -1,4 +1,4 @@
--- What the accepted records say, and nothing else: paper 01, 'Charts', 'Calibration', 'Weeks and calls (6.4.4)' and 'Usable', paper 02, C-11 and C-12,
+-- What the accepted records say, and nothing else: paper 01, 'Charts', 'Calibration', 'Weeks and calls (6.4.4)' and 'Usable', paper 02, C-11 to C-13,
 -- and the mission's statement 3.
 -- A history is the list of accepted records, each with the edition of its block, newest first, so that "since the last" is plain recursion.
 use mathlib.Core.Path.{_≡_}
@@ -86,7 +86,8 @@ tally p (r ∷ h) = if passes (r .bytes) then 0 else if p h r then suc (tally p 
 abbrev pub valueOfWeek : ℕ → History → Entry → Bool
 valueOfWeek w h r = counts (r .bytes) && eqb (ownWeek r) w
 
--- such a value that was outside when it was applied
+-- Such a value that was outside when it was applied. It is judged by its own block's edition, against the top in force, so that a week may have values of both
+-- editions in one tally (paper 02, C-13).
 abbrev pub outsideOfWeek : ℕ → History → Entry → Bool
 outsideOfWeek w h r = valueOfWeek w h r && outsideBy (r .edition) (functionIn h) (settingIn h) (r .bytes)
 

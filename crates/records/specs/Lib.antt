@@ -17,6 +17,7 @@ pub mod Agreement
 pub mod AgreementLaws
 pub mod Answers
 pub mod AnswersLaws
+pub mod EditionLaws
 pub mod SoundnessLaws
 pub mod LentListLaws
 pub mod Steps
