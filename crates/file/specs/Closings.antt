@@ -1,4 +1,4 @@
--- Paper 01, 'Making blocks and closings', and paper 02, C-12: making a closing, and the rows of 'Where input is stopped' for it. Its figures are worked
+-- Paper 01, 'Making blocks and closings', and paper 02, C-12 and C-13: making a closing, and the rows of 'Where input is stopped' for it. Its figures are worked
 -- out from the state that the records before it lead to, in a block of the edition told.
 use mathlib.Core.Bool.{Bool, not, _||_}
 use mathlib.Core.List.{List, [], _∷_, _++_}

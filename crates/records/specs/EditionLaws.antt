@@ -1,14 +1,18 @@
--- Paper 02, C-13: the alarms' history runs straight through a change of edition. What the records say of the setting, the charts, the pairs that wait and the
--- function in force is the same whatever the editions of their blocks. (The week's tally is not: each value is judged by its own block's edition.)
+-- Paper 02, C-13: what the records say whatever the editions of their blocks are: setting, differences and alarms, pairs that wait, function in force, and how
+-- many values a week has. How many of these were outside is not among it, nor an adjustment: each goes by the edition of its own record. But how a next
+-- record is judged is, with the edition of that record alone.
 use mathlib.Core.Path.{_≡_, refl, sym, ap, _∙_}
-use mathlib.Core.Bool.{Bool, true, false}
+use mathlib.Core.Bool.{Bool, true, false, _&&_}
 use mathlib.Core.List.{List, [], _∷_, _++_, map}
+use Prim.Native.Nat.{ℕ, suc}
+use lib.Dec.{eqb}
 use Rattle.charts.specs.Tests.{if_then_else_}
 use Rattle.charts.specs.Runs.{Alarm}
 use Rattle.records.specs.Lists.{since, those, any, those-since}
 use Rattle.records.specs.Record.{Record, settingOf, differenceOf, waitingOf, functionOf}
-use Rattle.records.specs.Kinds.{Point, reads, resets, sets, pairs, empties, calibrates}
-use Rattle.records.specs.History.{Entry, History, on, settingIn, lastMinute, startedIn, differencesIn, AlarmStands, pendingIn, functionIn}
+use Rattle.records.specs.Kinds.{Point, atZero, atSpan, reads, resets, sets, pairs, empties, calibrates, passes, counts}
+use Rattle.records.specs.Table.{Facts, refusalIn}
+use Rattle.records.specs.History.{Entry, History, on, settingIn, lastMinute, startedIn, differencesIn, AlarmStands, pendingIn, functionIn, ownWeek, outsideOfWeek, totalIn, begunIn, factsIn, refusalOf}
 use Rattle.records.specs.declared.state.Setting.{Setting}
 use Rattle.records.specs.declared.state.Waiting.{Waiting}
 use Rattle.records.specs.declared.state.Calibration.{Calibration}
@@ -18,8 +22,8 @@ use Rattle.records.specs.declared.state.Calibration.the-variants.{InForc
 abbrev pub withoutEditions : History → List Record
 withoutEditions h = map (λ (r : Entry). r .bytes) h
 
--- what two histories have in common: the setting and the last minute, the differences and the alarms at each chart, the pairs that wait, and the
--- function in force
+-- what two histories have in common: the setting and the last minute, the differences and the alarms at each chart, the pairs that wait, the function in
+-- force and the values of each week; and how a next record is judged: by which row it is refused, and whether it is a value outside
 pub record Alike (h k : History) : Type 0 where
   pub setting : settingIn h ≡ settingIn k
   pub minute : lastMinute h ≡ lastMinute k
@@ -28,10 +32,12 @@ pub record Alike (h k : History) : Type 0 where
   pub alarms : (c : Point) (a : Alarm) → (AlarmStands c a h → AlarmStands c a k) × (AlarmStands c a k → AlarmStands c a h)
   pub pending : pendingIn h ≡ pendingIn k
   pub function : functionIn h ≡ functionIn k
+  pub total : (w : ℕ) → totalIn w h ≡ totalIn w k
+  pub refusal : (r : Entry) → refusalOf h r ≡ refusalOf k r
+  pub outside : (w : ℕ) (r : Entry) → outsideOfWeek w h r ≡ outsideOfWeek w k r
 
--- ---- each is the same of the records in one edition
+-- ---- each is the same where all editions are made 0
 
--- records as entries of edition 0
 abbrev entries : List Record → History
 entries rs = map (λ (r : Record). record { edition = 0; bytes = r }) rs
 
@@ -91,6 +97,31 @@ unfolding functionIn
 plain-function [] = refl
 plain-function (r ∷ h) = ap (λ (k : Calibration). if calibrates (r .bytes) then InForce (functionOf (r .bytes)) else k) (plain-function h)
 
+plain-begun : (h : History) → begunIn h ≡ begunIn (plain h)
+plain-begun [] = refl
+plain-begun (r ∷ h) = refl
+
+plain-total : (w : ℕ) (h : History) → totalIn w h ≡ totalIn w (plain h)
+unfolding totalIn
+plain-total w [] = refl
+plain-total w (r ∷ h) =
+    ap (λ (n : ℕ). if passes (r .bytes) then 0 else if counts (r .bytes) && eqb (ownWeek r) w then suc n else n) (plain-total w h)
+
+plain-facts : (e : ℕ) (h : History) → factsIn e h ≡ factsIn e (plain h)
+unfolding factsIn
+plain-facts e h =
+    rw (
+      sym (plain-begun h),
+      sym (plain-minute h),
+      sym (plain-setting h),
+      sym (plain-any (resets atZero) h),
+      sym (plain-differences atZero h),
+      sym (plain-any (resets atSpan) h),
+      sym (plain-differences atSpan h),
+      sym (plain-pending h),
+      sym (plain-function h),
+    )
+
 -- STRAIGHT THROUGH: of the same records, whatever their editions
 pub straight-through : (h k : History) → withoutEditions h ≡ withoutEditions k → Alike h k
 straight-through h k e = record {
@@ -100,7 +131,10 @@ straight-through h k e = record {
   differences = differences;
   alarms = λ c a. (rw (setting, differences c) (λ x. x), rw (setting, differences c) (λ x. x));
   pending = by pendingIn plain-pending;
-  function = by functionIn plain-function;
+  function = function;
+  total = λ w. by (totalIn w) (plain-total w);
+  refusal = λ r. ap (λ (f : Facts). refusalIn f (r .bytes)) (by (factsIn (r .edition)) (plain-facts (r .edition)));
+  outside = λ w r. rw (function, setting);
 }
   where
     by : {B : Type 0} (f : History → B) → ((h : History) → f h ≡ f (plain h)) → f h ≡ f k
@@ -108,6 +142,9 @@ straight-through h k e = record {
 
     setting : settingIn h ≡ settingIn k
     setting = by settingIn plain-setting
+
+    function : functionIn h ≡ functionIn k
+    function = by functionIn plain-function
 
     started : (c : Point) → startedIn c h ≡ startedIn c k
     started c = by (startedIn c) (plain-any (resets c))
