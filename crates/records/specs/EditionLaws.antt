@@ -1,6 +1,7 @@
--- Paper 02, C-13: what the records say whatever the editions of their blocks are: setting, differences and alarms, pairs that wait, function in force, and how
--- many values a week has. How many of these were outside is not among it, nor an adjustment: each goes by the edition of its own record. But how a next
--- record is judged is, with the edition of that record alone.
+-- Paper 02, C-13: what the records say whatever the editions of their blocks are: the setting, differences and alarms, the pairs that wait, the function in
+-- force, how many of a week's values count, and, of a next record with its own edition, which row refuses it and whether it is a value outside. Not among
+-- these are adjustments, the number of values outside, and what follows from that number: weeks over 5 %, calls, usable. They go by the editions of the
+-- records behind them.
 use mathlib.Core.Path.{_≡_, refl, sym, ap, _∙_}
 use mathlib.Core.Bool.{Bool, true, false, _&&_}
 use mathlib.Core.List.{List, [], _∷_, _++_, map}
@@ -23,7 +24,7 @@ abbrev pub withoutEditions : History → List Record
 withoutEditions h = map (λ (r : Entry). r .bytes) h
 
 -- what two histories have in common: the setting and the last minute, the differences and the alarms at each chart, the pairs that wait, the function in
--- force and the values of each week; and how a next record is judged: by which row it is refused, and whether it is a value outside
+-- force and how many values of each week count; and of a next record, by which row it is refused and whether it is a value outside
 pub record Alike (h k : History) : Type 0 where
   pub setting : settingIn h ≡ settingIn k
   pub minute : lastMinute h ≡ lastMinute k

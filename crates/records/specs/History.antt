@@ -86,8 +86,8 @@ tally p (r ∷ h) = if passes (r .bytes) then 0 else if p h r then suc (tally p 
 abbrev pub valueOfWeek : ℕ → History → Entry → Bool
 valueOfWeek w h r = counts (r .bytes) && eqb (ownWeek r) w
 
--- Such a value that was outside when it was applied. It is judged by its own block's edition, against the top in force, so that a week may have values of both
--- editions in one tally (paper 02, C-13).
+-- Such a value that was outside when it was applied. It is judged by its own block's edition, against the top in force; a week's tally may have values of
+-- both editions (paper 02, C-13).
 abbrev pub outsideOfWeek : ℕ → History → Entry → Bool
 outsideOfWeek w h r = valueOfWeek w h r && outsideBy (r .edition) (functionIn h) (settingIn h) (r .bytes)
 
