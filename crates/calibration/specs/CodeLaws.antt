@@ -1,18 +1,19 @@
 -- The formulas as the code works them out, and the ranges in which its arithmetic fits.
 use mathlib.Core.Path.{_≡_, refl, sym, ap, subst, _∙_}
 use mathlib.Core.Bool.{Bool, true, false}
-use borrow.Author.Tests.{le-leb, lt-leb}
-use Prim.Native.Nat.{ℕ, zero, suc, _+_, _-_, _*_, _/_, _%_, _≤_, _<_}
+use borrow.Author.Tests.{lt-leb}
+use Prim.Native.Nat.{ℕ, _+_, _-_, _*_, _/_, _%_, _≤_, _<_}
 use native.Mathlib.Omega.{arith}
 use native.Mathlib.Nat.{le-div-iff-mul-le, div-add-mod'}
 use lib.Dec.{T, leb}
-use lib.IntN.{ℤ, pos, natAbs, _+ℤ_, _-ℤ_, _*ℤ_}
-use lib.Signed.{_≤ℤ_, _<ℤ_}
-use Rattle.charts.specs.Tests.{if_then_else_, same-answer, answers-as, answers-le}
+use lib.IntN.{ℤ, pos, negℤ, natAbs, _+ℤ_, _-ℤ_, _*ℤ_}
+use lib.Signed.{_<ℤ_}
+use Rattle.charts.specs.Tests.{if_then_else_, if-yes, if-no, same-answer, answers-as, answers-le}
 use Rattle.charts.specs.Rounding.{nearOf}
-use Rattle.charts.specs.RoundingLaws.{near-nonpos}
-use Rattle.charts.specs.Integers.{diff, prod, eq-ud, ud-eq, ud-le, ud-lt, le-ud, le-leZ, lt-leZ}
-use Rattle.calibration.specs.Pairs.{Between, between-answers}
+use Rattle.charts.specs.RoundingLaws.{even-multiple, near-bound, near-nonneg, near-shift}
+use Rattle.charts.specs.Division.{Divided}
+use Rattle.charts.specs.Integers.{sum, diff, prod, one-zero, abs-ud, abs-prod, eq-ud, ud-eq, ud-le, le-ud, lt-ud, le-leZ, *ℤ-assoc, *ℤ-distrib}
+use Rattle.calibration.specs.Pairs.{Between, betweenOf, between-answers}
 use Rattle.calibration.specs.Calibration.{slopeRangedOf, higherOf}
 use Rattle.calibration.specs.Annual.{functionOf, tOf}
 use Rattle.calibration.specs.declared.Standard.{Standard}
@@ -74,27 +75,7 @@ module _ (n : ℕ) (sum : ℤ) (q σ : ℕ) where
       let e : pos (natAbs sum) -ℤ pos (n * σ) ≡ pos (natAbs sum - n * σ) = ud-eq (omega (arith, diff (pos (natAbs sum)) (pos (n * σ)))) in
       rw (e, lt-leb (natAbs sum - n * σ) 0 (omega arith))
 
--- ---- the slope, from an unsigned quotient
-
--- a numerator that is not above 0 gives no slope
-pub slope-none : (edition : ℕ) → (rise divisor : ℤ) → rise ≤ℤ pos 0 → pos 0 <ℤ divisor → slopeCode edition rise divisor ≡ pos 0
-unfolding slopeCode
-slope-none edition rise divisor h k =
-    let b = nearOf edition (pos 100000 *ℤ rise) divisor in
-    let l : b ≤ℤ pos 0 = near-nonpos edition (pos 100000 *ℤ rise) divisor k (ud-le (omega (arith, le-ud h, prod (pos 100000) rise))) in
-    rw (lt-leZ {a = pos 1} {b = b} (ud-lt (omega (arith, le-ud l))))
-
--- nor is one that is too steep
-pub slope-steep : (edition : ℕ) → (rise divisor : ℤ) (b : ℕ) → pos b ≡ nearOf edition (pos 100000 *ℤ rise) divisor → 1000000 < b → slopeCode edition rise divisor ≡ pos 0
-unfolding slopeCode
-slope-steep edition rise divisor b e h = rw (sym e, le-leb 1 b (omega arith), lt-leb b 1000000 h)
-
-pub slope-fits : (edition : ℕ) → (rise divisor : ℤ) (b : ℕ) → pos b ≡ nearOf edition (pos 100000 *ℤ rise) divisor → b ≤ 1000000 → slopeCode edition rise divisor ≡ pos b
-unfolding slopeCode
-slope-fits edition rise divisor zero e h = rw (sym e)
-slope-fits edition rise divisor (suc b) e h = rw (sym e, le-leb (suc b) 1000000 h, le-leb 1 (suc b) (omega arith))
-
--- it is 0 exactly where B is outside its range
+-- ---- the code's B: 0 exactly where B is outside its range
 refused : (b : ℤ) (t : Bool) → slopeRangedOf b ≡ t → (if t then b else pos 0) ≡ pos 0 → t ≡ false
 refused b true r e = absurd (omega (arith, le-ud (between-answers (pos 1) (pos 1000000) b .sure (subst T (sym r) tt) .low), eq-ud e))
 refused b false r e = refl
@@ -104,10 +85,81 @@ taken b true h = (refl, refl)
 taken b false h = absurd (h refl)
 
 module _ (edition : ℕ) (rise divisor : ℤ) where
-  pub slope-refused : slopeCode edition rise divisor ≡ pos 0 → slopeRangedOf (nearOf edition (pos 100000 *ℤ rise) divisor) ≡ false
-  unfolding slopeCode
-  slope-refused e = let b = nearOf edition (pos 100000 *ℤ rise) divisor in refused b (slopeRangedOf b) refl e
+  abbrev b : ℤ
+  b = nearOf edition (pos 100000 *ℤ rise) divisor
 
-  pub slope-taken : (slopeCode edition rise divisor ≡ pos 0 → ⊥) → (slopeRangedOf (nearOf edition (pos 100000 *ℤ rise) divisor) ≡ true) × (slopeCode edition rise divisor ≡ nearOf edition (pos 100000 *ℤ rise) divisor)
+  -- by the test of B
+  pub slope-in : slopeRangedOf b ≡ true → slopeCode edition rise divisor ≡ b
   unfolding slopeCode
-  slope-taken h = let b = nearOf edition (pos 100000 *ℤ rise) divisor in taken b (slopeRangedOf b) h
+  slope-in t = if-yes _ _ _ t
+
+  pub slope-out : slopeRangedOf b ≡ false → slopeCode edition rise divisor ≡ pos 0
+  unfolding slopeCode
+  slope-out t = if-no _ _ _ t
+
+  -- and back
+  pub slope-refused : slopeCode edition rise divisor ≡ pos 0 → slopeRangedOf b ≡ false
+  unfolding slopeCode
+  slope-refused e = refused b (slopeRangedOf b) refl e
+
+  pub slope-taken : (slopeCode edition rise divisor ≡ pos 0 → ⊥) → (slopeRangedOf b ≡ true) × (slopeCode edition rise divisor ≡ b)
+  unfolding slopeCode
+  slope-taken h = taken b (slopeRangedOf b) h
+
+-- ---- B from the whole part k of rise / divisor, and its rest
+module _ (edition : ℕ) (rise divisor : ℤ) {k rest : ℤ} (h : pos 0 <ℤ divisor) (D : Divided rise divisor k rest) where
+  -- near(100000·rest/divisor)
+  abbrev part : ℤ
+  part = nearOf edition (pos 100000 *ℤ rest) divisor
+
+  -- 100000·k goes through the rounding, since it is even
+  pub slope-parts : b edition rise divisor ≡ pos 100000 *ℤ k +ℤ part
+  slope-parts =
+      ap (λ (n : ℤ). nearOf edition n divisor) split
+      ∙ near-shift edition (pos 100000 *ℤ rest) (pos 100000 *ℤ k) divisor h (even-multiple 50000 k)
+    where
+      split : pos 100000 *ℤ rise ≡ (pos 100000 *ℤ k) *ℤ divisor +ℤ pos 100000 *ℤ rest
+      split =
+          ap (λ (n : ℤ). pos 100000 *ℤ n) (D .parts)
+          ∙ *ℤ-distrib (pos 100000) (k *ℤ divisor) rest
+          ∙ ap (λ (n : ℤ). n +ℤ pos 100000 *ℤ rest) (sym (*ℤ-assoc (pos 100000) k divisor))
+
+  -- the rest is not below 0, and below the divisor
+  pub part-ranged : Between (pos 0) (pos 100000) part
+  part-ranged =
+      let f₁ = le-ud (D .low) in
+      let f₂ = lt-ud (D .high) in
+      let f₃ = lt-ud h in
+      let f₄ = abs-ud rest in
+      let f₅ = one-zero rest in
+      let f₆ = abs-ud divisor in
+      let m = near-bound edition (pos 100000 *ℤ rest) divisor 100000 h (omega (arith, abs-prod (pos 100000) rest)) in
+      record {
+        low = near-nonneg edition (pos 100000 *ℤ rest) divisor h (ud-le (omega (arith, prod (pos 100000) rest)));
+        high = ud-le (omega (arith, abs-ud part));
+      }
+
+  -- a B in its range has k in -1..10
+  whole-ranged : Between (pos 1) (pos 1000000) (b edition rise divisor) → Between (negℤ (pos 1)) (pos 10) k
+  whole-ranged B =
+      let f₁ = le-ud (B .low) in
+      let f₂ = le-ud (B .high) in
+      let f₃ = eq-ud slope-parts in
+      let f₄ = le-ud (part-ranged .low) in
+      let f₅ = le-ud (part-ranged .high) in
+      let f₆ = prod (pos 100000) k in
+      let f₇ = sum (pos 100000 *ℤ k) part in
+      record { low = ud-le (omega arith); high = ud-le (omega arith) }
+
+  -- and a k outside them has no B in its range
+  pub slope-far : betweenOf (negℤ (pos 1)) (pos 10) k ≡ false → slopeCode edition rise divisor ≡ pos 0
+  slope-far o = slope-out edition rise divisor (go (slopeRangedOf v) refl)
+    where
+      v : ℤ
+      v = b edition rise divisor
+
+      go : (t : Bool) → slopeRangedOf v ≡ t → t ≡ false
+      go true r =
+          let K = whole-ranged (between-answers (pos 1) (pos 1000000) v .sure (subst T (sym r) tt)) in
+          absurd (subst T o (between-answers (negℤ (pos 1)) (pos 10) k .back K))
+      go false r = refl

@@ -5,11 +5,11 @@ use Prim.Native.Nat.{ℕ, _+_, _*_, _≤_, _<_}
 use native.Mathlib.Omega.{arith}
 use native.Mathlib.Nat.{mul-le-mul, mul-le-mul-left}
 use lib.IntN.{ℤ, pos, negℤ, natAbs, _+ℤ_, _-ℤ_, _*ℤ_}
-use Rattle.charts.specs.Integers.{sum, diff, one-zero, abs-ud, up-neg, dn-neg, le-ud, ud-le, ud-lt, abs-prod}
+use Rattle.charts.specs.Integers.{sum, diff, one-zero, abs-ud, up-neg, dn-neg, le-ud, ud-le, ud-lt, abs-diff, abs-prod}
 use Rattle.charts.specs.RoundingLaws.{near-bound}
 use Rattle.calibration.specs.Pairs.{Between, PairRanged, ZRanged}
 use Rattle.calibration.specs.PairLaws.{between-abs, between-size, between-above, between-pos}
-use Rattle.calibration.specs.Calibration.{plusOf, riseOf, interceptOf, LineRanged}
+use Rattle.calibration.specs.Calibration.{plusOf, riseOf, divisorOf, interceptOf, LineRanged}
 use Rattle.calibration.specs.CodeLaws.{SumsRanged}
 use Rattle.calibration.specs.declared.Pair.{Pair}
 use Rattle.calibration.specs.declared.Sums.{Sums}
@@ -69,6 +69,13 @@ module _ {u : Sums} (U : SumsRanged u) where
   unfolding riseOf
   rise-bound true = omega (arith, between-abs y-ranged)
   rise-bound false = apart (product-between n-ranged xy-ranged) (product-between x-ranged y-ranged)
+
+-- B's divisor
+pub divisor-bound : {u : Sums} {z : ℤ} → SumsRanged u → ZRanged z → (flat : Bool) → natAbs (divisorOf flat u z) ≤ 144000000000000
+unfolding divisorOf
+divisor-bound {u} {z} U Z true =
+    omega (arith, abs-diff (u .x) (pos (u .n) *ℤ z), between-abs (x-ranged U), product-size (pos (u .n)) z (U .n) (between-abs Z))
+divisor-bound {u} U Z false = apart (product-between (n-ranged U) (xx-ranged U)) (product-between (x-ranged U) (x-ranged U))
 
 -- one pair more
 pub plus-ranged : {u : Sums} {p : Pair} → SumsRanged u → u .n < 30 → PairRanged p → SumsRanged (plusOf u p)

@@ -308,16 +308,19 @@ fn divisor(flat: bool, u: Sums, z: i32) -> i64
     (u.n as i64) * u.xx - u.x * u.x
 }
 
-// B, or 0 where it is outside 1..1,000,000. The product is unsigned: it can pass 2^63.
+// B, or 0 where it is outside 1..1,000,000: near(100000·rise/divisor), worked out from the whole part of rise/divisor and its rest. A whole part below
+// -1 or over 10 gives no B in its range (-1 gives none either, but a test against 0 would be one of the sign); the rest times 100000 fits, unsigned.
 fn slope(edition: u8, rise: i64, divisor: i64) -> i32
-    requires { ⌜ (natAbs rise ≤ 144000000000000) × (pos 0 <ℤ divisor) ⌝ }
+    requires { ⌜ (natAbs rise ≤ 144000000000000) × (pos 0 <ℤ divisor) × (natAbs divisor ≤ 144000000000000) ⌝ }
     ensures { λ r. ⌜ r ≡ slopeCode edition rise divisor ⌝ }
 {
-    if rise <= 0 {
+    let p = charts::divide(rise, divisor);
+    if !between(-1, 10, p.whole) {
         return 0;
     }
-    let b = charts::near_unsigned(edition, 100000 * (rise as u64), divisor as u64);
-    if 1000000 < b {
+    let part = charts::near_unsigned(edition, 100000 * (p.rest as u64), divisor as u64);
+    let b = 100000 * p.whole + part as i64;
+    if !between(1, 1000000, b) {
         return 0;
     }
     b as i32

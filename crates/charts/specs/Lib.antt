@@ -2,6 +2,7 @@ pub mod Integers
 pub mod SignedLocals
 pub mod Tests
 pub mod Rounding
+pub mod Division
 pub mod RoundingLaws
 pub mod RoundingCases
 pub mod Sums

@@ -1,4 +1,4 @@
--- Laws of `nearOf`, and `Divided`, what the code works it out by. Callers cite these and, but for worked cases, never its text.
+-- Laws of `nearOf`, and of the division that the code works it out by. Callers cite these and, but for worked cases, never the text of `nearOf`.
 use mathlib.Core.Path.{_≡_, refl, sym, ap, _∙_, subst}
 use mathlib.Core.Bool.{Bool, true, false, not, _&&_, _||_}
 use Prim.Native.Nat.{ℕ, zero, suc, _+_, _*_, _/_, _%_, _≤_, _<_}
@@ -10,6 +10,8 @@ use lib.IntN.{ℤ, pos, negsuc, negℤ, natAbs, _+ℤ_, _-ℤ_, _*ℤ_}
 use lib.Signed.{shrZ, quotZ, remZ, _≤ℤ_, _<ℤ_, ≤ℤ-refl}
 use Rattle.charts.specs.Tests.{if_then_else_, if-all, if-yes, if-no}
 use Rattle.charts.specs.Rounding.{odd, roundsUp, nearOf}
+use Rattle.charts.specs.Division.{Divided, divisionOf}
+use Rattle.charts.specs.declared.Division.{Division}
 use Rattle.charts.specs.Integers.{up, dn, sum, diff, prod, one-zero, abs-ud, abs-prod, up-neg, dn-neg, ud-eq, ud-le, ud-lt, le-ud, lt-ud, eq-ud}
 
 -- the floor of z / m, by what it is
@@ -232,14 +234,10 @@ near-bound e n (pos m) k h b =
 near-zero : (e m : ℕ) → pos 0 <ℤ pos m → nearOf e (pos 0) (pos m) ≡ pos 0
 near-zero e m h = let z : pos 0 *ℤ pos m ≡ pos 0 = ap pos (omega arith) in ap (λ (v : ℤ). nearOf e v (pos m)) (sym z) ∙ near-whole e (pos 0) (pos m) h
 
--- what is not below 0 stays so, and what is not above 0 too
+-- what is not below 0 stays so
 pub near-nonneg : (e : ℕ) (n d : ℤ) → pos 0 <ℤ d → pos 0 ≤ℤ n → pos 0 ≤ℤ nearOf e n d
 near-nonneg e n (negsuc m) h k = absurd (h .lt)
 near-nonneg e n (pos m) h k = rw (near-zero e m h) at (near-mono e (pos m) h k)
-
-pub near-nonpos : (e : ℕ) (n d : ℤ) → pos 0 <ℤ d → n ≤ℤ pos 0 → nearOf e n d ≤ℤ pos 0
-near-nonpos e n (negsuc m) h k = absurd (h .lt)
-near-nonpos e n (pos m) h k = rw (near-zero e m h) at (near-mono e (pos m) h k)
 
 -- EDITION 1 STAYS: in it, and under every number but 2, near(n/d) is the floor of (2n + d) / 2d
 pub near-first : (e : ℕ) (n : ℤ) (m : ℕ) → 0 < m → (e ≡ 2 → ⊥) → nearOf e n (pos m) ≡ shrZ (pos 2 *ℤ n +ℤ pos m) (2 * m)
@@ -309,15 +307,9 @@ near-even n m h =
     even true t = absurd t
     even false t = refl
 
--- ---- as the code has it: quotient and rest, and the test of a half
+-- ---- as the code has it: floor and rest, and the test of a half
 
--- q is the floor of n / d, and r what is left over
-pub record Divided (n d q r : ℤ) : Type 0 where
-  pub low : pos 0 ≤ℤ r
-  pub high : r <ℤ d
-  pub parts : n ≡ q *ℤ d +ℤ r
-
-module _ (e : ℕ) (n : ℤ) (m : ℕ) (q r : ℤ) (h : pos 0 <ℤ pos m) (D : Divided n (pos m) q r) where
+module _ (n : ℤ) (m : ℕ) (q r : ℤ) (h : pos 0 <ℤ pos m) (D : Divided n (pos m) q r) where
   whole : shrZ n m ≡ q
   whole =
       let f₁ = sum (q *ℤ pos m) r in
@@ -326,23 +318,110 @@ module _ (e : ℕ) (n : ℤ) (m : ℕ) (q r : ℤ) (h : pos 0 <ℤ pos m) (D : D
       floor-unique (floor-is n m (omega (arith, lt-ud h)))
       (record { low = ud-le (omega (arith, le-ud (D .low))); high = ud-lt (omega (arith, lt-ud (D .high))) })
 
-  rest : natAbs (n -ℤ q *ℤ pos m) ≡ natAbs r
-  rest =
-      let z = n -ℤ q *ℤ pos m in
-      omega (arith, eq-ud (D .parts), sum (q *ℤ pos m) r, diff n (q *ℤ pos m), abs-ud z, one-zero z, abs-ud r, one-zero r)
+  rest : n -ℤ q *ℤ pos m ≡ r
+  rest = ud-eq (omega (arith, eq-ud (D .parts), sum (q *ℤ pos m) r, diff n (q *ℤ pos m)))
 
-  tested : nearOf e n (pos m) ≡ (if roundsUp e (odd q) (natAbs r) m then q +ℤ pos 1 else q)
+  tested : (e : ℕ) → nearOf e n (pos m) ≡ (if roundsUp e (odd q) (natAbs r) m then q +ℤ pos 1 else q)
   unfolding nearOf
-  tested = rw (whole, rest)
+  tested e = rw (whole, rest)
+
+  one-division : record { whole = q; rest = r } ≡ divisionOf n (pos m)
+  unfolding divisionOf
+  one-division = rw (whole, rest)
+
+-- `divisionOf` is the floor and its rest
+division-divides : (n d : ℤ) → pos 0 <ℤ d → Divided n d (divisionOf n d .whole) (divisionOf n d .rest)
+unfolding divisionOf
+division-divides n (negsuc m) h = absurd (h .lt)
+division-divides n (pos m) h =
+    let q = shrZ n m in
+    let F = floor-is n m (omega (arith, lt-ud h)) in
+    let f₁ = diff n (q *ℤ pos m) in
+    let f₂ = sum (q *ℤ pos m) (pos m) in
+    let f₃ = sum (q *ℤ pos m) (n -ℤ q *ℤ pos m) in
+    record {
+      low = ud-le (omega (arith, le-ud (F .low)));
+      high = ud-lt (omega (arith, lt-ud (F .high)));
+      parts = ud-eq (omega arith);
+    }
+
+pub division-parts : {n d : ℤ} {p : Division} → pos 0 <ℤ d → p ≡ divisionOf n d → Divided n d (p .whole) (p .rest)
+division-parts {n} {d} h e = subst (λ (p : Division). Divided n d (p .whole) (p .rest)) (sym e) (division-divides n d h)
+
+-- and every floor with its rest is `divisionOf`
+pub division-unique : (n d : ℤ) {q r : ℤ} → pos 0 <ℤ d → Divided n d q r → record { whole = q; rest = r } ≡ divisionOf n d
+division-unique n (pos m) {q} {r} h D = one-division n m q r h D
+division-unique n (negsuc m) h D = absurd (h .lt)
 
 -- one more where the test says so, else the quotient
 pub near-up : (e : ℕ) (n d : ℤ) {q r : ℤ} → pos 0 <ℤ d → Divided n d q r → roundsUp e (odd q) (natAbs r) (natAbs d) ≡ true → q +ℤ pos 1 ≡ nearOf e n d
-near-up e n (pos m) {q} {r} h D t = sym (tested e n m q r h D ∙ if-yes _ _ _ t)
+near-up e n (pos m) {q} {r} h D t = sym (tested n m q r h D e ∙ if-yes _ _ _ t)
 near-up e n (negsuc m) h D t = absurd (h .lt)
 
 pub near-down : (e : ℕ) (n d : ℤ) {q r : ℤ} → pos 0 <ℤ d → Divided n d q r → roundsUp e (odd q) (natAbs r) (natAbs d) ≡ false → q ≡ nearOf e n d
-near-down e n (pos m) {q} {r} h D t = sym (tested e n m q r h D ∙ if-no _ _ _ t)
+near-down e n (pos m) {q} {r} h D t = sym (tested n m q r h D e ∙ if-no _ _ _ t)
 near-down e n (negsuc m) h D t = absurd (h .lt)
+
+-- ---- an even number goes through
+
+-- an even k does not change whether q is odd
+even-shift : (q k : ℤ) → odd k ≡ false → odd (q +ℤ k) ≡ odd q
+unfolding odd
+even-shift q k e =
+    let f₁ = eqb-false (natAbs k % 2) 1 e in
+    let f₂ = sum q k in
+    let f₃ = abs-ud q in
+    let f₄ = one-zero q in
+    let f₅ = abs-ud k in
+    let f₆ = one-zero k in
+    let f₇ = abs-ud (q +ℤ k) in
+    let f₈ = one-zero (q +ℤ k) in
+    let g : natAbs (q +ℤ k) % 2 ≡ natAbs q % 2 = omega arith in
+    ap (λ (b : ℕ). eqb b 1) g
+
+-- every multiple of 2c is even
+pub even-multiple : (c : ℕ) (k : ℤ) → odd (pos (2 * c) *ℤ k) ≡ false
+unfolding odd
+even-multiple c k = ne-eqb (natAbs (pos (2 * c) *ℤ k) % 2) 1 (λ e. omega (arith, abs-prod (pos (2 * c)) k))
+
+-- EVEN NUMBERS GO THROUGH: near(x + k) is near(x) + k for even k, in both editions
+pub near-shift : (e : ℕ) (n k d : ℤ) → pos 0 <ℤ d → odd k ≡ false → nearOf e (k *ℤ d +ℤ n) d ≡ k +ℤ nearOf e n d
+near-shift e n k (negsuc m) h o = absurd (h .lt)
+near-shift e n k (pos m) h o =
+    tested (k *ℤ pos m +ℤ n) m (q +ℤ k) r h shifted e
+    ∙ ap (λ (b : Bool). if roundsUp e b (natAbs r) m then (q +ℤ k) +ℤ pos 1 else (q +ℤ k)) (even-shift q k o)
+    ∙ both (roundsUp e (odd q) (natAbs r) m)
+    ∙ ap (λ (v : ℤ). k +ℤ v) (sym (tested n m q r h D e))
+  where
+    q : ℤ
+    q = divisionOf n (pos m) .whole
+
+    r : ℤ
+    r = divisionOf n (pos m) .rest
+
+    D : Divided n (pos m) q r
+    D = division-divides n (pos m) h
+
+    shifted : Divided (k *ℤ pos m +ℤ n) (pos m) (q +ℤ k) r
+    shifted = record {
+      low = D .low;
+      high = D .high;
+      parts =
+          let f₁ = prod q (pos m) in
+          let f₂ = prod k (pos m) in
+          let f₃ = prod (q +ℤ k) (pos m) in
+          let f₄ = ap (λ (x : ℕ). x * m) (sum q k) in
+          let f₅ = sum (k *ℤ pos m) n in
+          let f₆ = sum (q *ℤ pos m) r in
+          let f₇ = sum ((q +ℤ k) *ℤ pos m) r in
+          ud-eq (omega (arith, eq-ud (D .parts)));
+    }
+
+    both : (t : Bool) → (if t then (q +ℤ k) +ℤ pos 1 else (q +ℤ k)) ≡ k +ℤ (if t then q +ℤ pos 1 else q)
+    both true = ud-eq (omega (arith, sum q k, sum (q +ℤ k) (pos 1), sum q (pos 1), sum k (q +ℤ pos 1)))
+    both false = ud-eq (omega (arith, sum q k, sum k q))
+
+-- ---- parity and rest as the code has them
 
 -- the code asks whether the remainder by 2 is 0, of either sign
 pub odd-unsigned : (n : ℕ) → not (eqb (n % 2) 0) ≡ odd (pos n)
@@ -394,6 +473,16 @@ abs-rem (negsuc a) (pos m) h =
     omega (arith, mod-lt (suc a) {m = m} (omega (arith, lt-ud h)), abs-ud (negℤ (pos (suc a % m))), up-neg (pos (suc a % m)), dn-neg (pos (suc a % m)))
 abs-rem n (negsuc m) h = absurd (h .lt)
 
+-- d goes at most once into what is below 2d
+div-once : (a m : ℕ) → a < 2 * m → a / m ≤ 1
+div-once a m l = let k : a / m < 2 = lt-of-mul-lt-mul-right m (omega (arith, div-add-mod' a m)) in omega arith
+
+pub quot-once : (z d : ℤ) → pos 0 <ℤ d → natAbs z < 2 * natAbs d → natAbs (quotZ z d) ≤ 1
+quot-once (pos a) (pos m) h l = div-once a m l
+quot-once (negsuc a) (pos m) h l =
+    omega (arith, div-once (suc a) m l, abs-ud (negℤ (pos (suc a / m))), up-neg (pos (suc a / m)), dn-neg (pos (suc a / m)))
+quot-once z (negsuc m) h l = absurd (h .lt)
+
 -- ---- the floor without a test: the remainder, raised by d, is above 0 and below 2d, and the quotient is one less for that d
 
 module _ (n : ℤ) (m : ℕ) (h : pos 0 <ℤ pos m) where
@@ -403,22 +492,13 @@ module _ (n : ℤ) (m : ℕ) (h : pos 0 <ℤ pos m) where
   abbrev size : ℕ
   size = up raised
 
-  facts : (dn raised ≡ 0) × (size < 2 * m) × (0 < m)
-  facts =
+  none-below : dn raised ≡ 0
+  none-below =
       let r = remZ n (pos m) in
-      let f₁ = sum r (pos m) in
-      let f₂ = abs-rem n (pos m) h in
-      let f₃ = abs-ud r in
-      let f₄ = one-zero raised in
-      (omega arith, omega (arith, one-zero r), omega arith)
+      omega (arith, sum r (pos m), abs-rem n (pos m) h, abs-ud r, one-zero raised)
 
   raised-is : raised ≡ pos size
-  raised-is = ud-eq (omega (arith, facts .0))
-
-  once : size / m ≤ 1
-  once =
-      let l : size / m < 2 = lt-of-mul-lt-mul-right m (omega (arith, facts .1, div-add-mod' size m)) in
-      omega arith
+  raised-is = ud-eq (omega (arith, none-below))
 
   divided : Divided n (pos m) ((quotZ n (pos m) -ℤ pos 1) +ℤ pos (size / m)) (pos (size % m))
   divided =
@@ -438,15 +518,13 @@ module _ (n : ℤ) (m : ℕ) (h : pos 0 <ℤ pos m) where
       let g₁ = sum (w *ℤ pos m) (pos (size % m)) in
       record {
         low = ud-le (omega arith);
-        high = ud-lt (omega (arith, mod-lt size (facts .2)));
-        parts = ud-eq (omega (arith, facts .0, div-add-mod' size m));
+        high = ud-lt (omega (arith, mod-lt size {m = m} (omega (arith, lt-ud h))));
+        parts = ud-eq (omega (arith, none-below, div-add-mod' size m));
       }
 
+-- C-14, OF THE CODE'S OWN EXPRESSIONS: for d above 0 and every n, (n % d + d) % d lies in 0..d-1, and n is d times n / d - 1 + (n % d + d) / d, plus
+-- this rest
 pub divided-raised : (n d : ℤ) → pos 0 <ℤ d → Divided n d ((quotZ n d -ℤ pos 1) +ℤ quotZ (remZ n d +ℤ d) d) (remZ (remZ n d +ℤ d) d)
 divided-raised n (pos m) h =
     subst (λ (z : ℤ). Divided n (pos m) ((quotZ n (pos m) -ℤ pos 1) +ℤ quotZ z (pos m)) (remZ z (pos m))) (sym (raised-is n m h)) (divided n m h)
 divided-raised n (negsuc m) h = absurd (h .lt)
-
-pub abs-raised : (n d : ℤ) → pos 0 <ℤ d → natAbs (quotZ (remZ n d +ℤ d) d) ≤ 1
-abs-raised n (pos m) h = subst (λ (z : ℤ). natAbs (quotZ z (pos m)) ≤ 1) (sym (raised-is n m h)) (once n m h)
-abs-raised n (negsuc m) h = absurd (h .lt)

@@ -3,23 +3,23 @@ ghost use Prim.Native.Nat.{_+_, _-_, _*_, _<_, _≤_, _^_};
 ghost use lib.IntN.{pos, natAbs, _+ℤ_, _-ℤ_};
 ghost use lib.Signed.{_<ℤ_};
 ghost use Rattle.charts.specs.Rounding.{editionKnown, nearOf, roundsUp};
-ghost use Rattle.charts.specs.RoundingLaws.{Divided};
+ghost use Rattle.charts.specs.Division.{divisionOf};
 ghost use Rattle.charts.specs.Sums.{added};
 ghost use Rattle.charts.specs.Charts.{adjustmentOf, alarmsOf, appliedOf, blank, resetOf};
 ghost use Rattle.charts.specs.Soundness.{Ranged, Sound, rangedOf, soundOf, withinOf};
 ghost use Rattle.charts.specs.CodeLaws.{apartOf};
 
-// The floor of n / d, and what is left over.
-struct Division {
-    whole: i64,
-    rest: i64,
+// The floor of n / d, and what is left over: the rest, in 0..d-1.
+pub struct Division {
+    pub whole: i64,
+    pub rest: i64,
 }
 
-// The floor and the rest. The machine's remainder has the sign of n; with d added it is above 0 and below 2d for either sign, and the quotient
-// is one less for the d that was added.
-fn divide(n: i64, d: i64) -> Division
+// The floor and the rest, with no test of a sign. The machine's remainder has the sign of n; with d added it is above 0 and below 2d for either sign,
+// and the quotient is one less for the d that was added.
+pub fn divide(n: i64, d: i64) -> Division
     requires { ⌜ (natAbs n ≤ 2 ^ 62) × (pos 0 <ℤ d) × (natAbs d ≤ 2 ^ 61) ⌝ }
-    ensures { λ p. ⌜ Divided n d (p .whole) (p .rest) ⌝ }
+    ensures { λ p. ⌜ p ≡ divisionOf n d ⌝ }
 {
     let r = n % d + d;
     Division {
@@ -45,7 +45,8 @@ fn rounds_up(edition: u8, odd: bool, r: u64, d: u64) -> bool
     (left < r) | ((left == r) & ((edition != 2) | odd))
 }
 
-// The whole number nearest to n / d, a half by the rule of the edition, for a signed numerator.
+// The whole number nearest to n / d, a half by the rule of the edition, for a signed numerator. One way for both signs and both editions: `divide`
+// brings the remainder into 0..d-1 by adding d and taking it again (`Divided` in specs/Division.antt), and the test of a half goes on from there.
 pub fn near(edition: u8, n: i64, d: i64) -> i64
     requires { ⌜ (natAbs n ≤ 2 ^ 62) × (pos 0 <ℤ d) × (natAbs d ≤ 2 ^ 61) ⌝ }
     ensures { λ r. ⌜ r ≡ nearOf edition n d ⌝ }

@@ -15,7 +15,7 @@ use Rattle.charts.specs.SignedLocals.{Loc, arg, lit, le-true, le-false, eq-true
 use Rattle.calibration.specs.Pairs.{Between, between-answers}
 use Rattle.calibration.specs.Calibration.{flatOf, riseOf, divisorOf, interceptOf, slopeRangedOf, lineFits, LineRanged}
 use Rattle.calibration.specs.CodeLaws.{slopeCode, slope-refused, slope-taken}
-use Rattle.calibration.specs.FitLaws.{rise-bound, line-ranged}
+use Rattle.calibration.specs.FitLaws.{rise-bound, divisor-bound, line-ranged}
 use Rattle.calibration.specs.VerdictLaws.{divisorBy, slopeBy, no-divisor, no-slope, a-line}
 use Rattle.calibration.specs.declared.Line.{Line}
 use Rattle.calibration.specs.declared.Pair.{Pair}
@@ -136,8 +136,11 @@ rise-requires c κs = search needs
 slope-requires : tie.Need-slope-requires
 slope-requires c κs =
     let d = c .before .before in
-    let s = d .before .before in
-    (omega (arith, ap natAbs (M c .reads ∙ rise-is c), rise-bound (s .pre .5) (flat s)), subst (λ (x : ℤ). pos 0 <ℤ x) (sym (D d .reads ∙ divisor-is d)) (above (c .before)))
+    let s = d .before .before in (
+      omega (arith, ap natAbs (M c .reads ∙ rise-is c), rise-bound (s .pre .5) (flat s)),
+      subst (λ (x : ℤ). pos 0 <ℤ x) (sym (D d .reads ∙ divisor-is d)) (above (c .before)),
+      omega (arith, ap natAbs (D d .reads ∙ divisor-is d), divisor-bound (s .pre .5) (s .pre .4) (flat s)),
+    )
 
 refused-fit-requires-2 : tie.Need-refused-fit-requires-2
 refused-fit-requires-2 c κs = search needs

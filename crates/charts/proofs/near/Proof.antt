@@ -12,7 +12,8 @@ use mir.Val.{toZ, ofZ}
 use Rattle.charts.specs.Integers.{abs-ud, one-zero, ud-le, le-ud, lt-ud, abs-sfits}
 use Rattle.charts.specs.SignedLocals.{Loc, arg, lit, on, add, add-need, rem, div-need, cast-u, cast-u-need}
 use Rattle.charts.specs.Rounding.{odd, roundsUp, nearOf}
-use Rattle.charts.specs.RoundingLaws.{Divided, abs-rem, odd-signed, near-up, near-down, near-bound}
+use Rattle.charts.specs.RoundingLaws.{abs-rem, odd-signed, near-up, near-down, near-bound, division-parts}
+use Rattle.charts.specs.Division.{Divided}
 use Rattle.charts.proofs.near.Statement.{statement}
 use Rattle.charts.proofs.near.Tie as tie
 
@@ -57,7 +58,7 @@ module _ (c : tie.After-divide) where
   d-pos = c .before .pre .1
 
   parts : Divided n d whole rest
-  parts = rw (N (c .before) .reads, D (c .before) .reads) at (c .divide .ensures)
+  parts = division-parts d-pos (rw (N (c .before) .reads, D (c .before) .reads) at (c .divide .ensures))
 
   abbrev W : Loc w64
   W = arg whole (search needs)
