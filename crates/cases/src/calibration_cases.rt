@@ -547,6 +547,30 @@ fn squares(e: u8) {
     );
 }
 
+// The same, where B/100000 has the whole part 0, 1, 9, 10 and 11, then 1, three times -1, and -2: halves of B above an odd multiple of 100000, and
+// whole parts that alone put B outside.
+fn wholes(e: u8) {
+    let s = neutral(400000, 1, 0);
+    fit(e, b"ratio-99999.5", 15, s, &[200000, 0], &[13337, 13333]);
+    fit(e, b"ratio-100000.5", 15, s, &[200000, 0], &[13339, 13333]);
+    fit(e, b"ratio-999999.5", 15, s, &[200000, 0], &[133337, 133333]);
+    fit(
+        e,
+        b"ratio-1099999.5",
+        15,
+        s,
+        &[200000, 0],
+        &[146675, 146666],
+    );
+    fit(e, b"ratio-1100000", 15, s, &[200000, 0], &[146676, 146666]);
+    let t = neutral(100, 1, 0);
+    fit(e, b"squares-150000.5", 17, t, &[200000, 0], &[300001, 0]);
+    fit(e, b"squares--0.25", 17, t, &[400000, 0], &[0, 16, 0]);
+    fit(e, b"squares--0.5", 17, t, &[400000, 0], &[0, 32, 0]);
+    fit(e, b"squares--100000", 17, t, &[1000, 0], &[0, 1000]);
+    fit(e, b"squares--150000", 17, t, &[1000, 0], &[0, 1500]);
+}
+
 // A negative A: (100000Σy - BΣx)/N is -8014187 1/2, and with B not rounded it would be near -8014085; the first pair's c is -19. Then Z at its
 // ends, and the largest sums.
 fn intercepts(e: u8) {
@@ -835,6 +859,7 @@ pub fn run(e: u8) {
     divisors(e);
     ratios(e);
     squares(e);
+    wholes(e);
     intercepts(e);
     far(e);
     order(e);

@@ -1,4 +1,4 @@
-// near(n/d) in an edition (e): halves, both signs, exact quotients, and the ends of its range.
+// near(n/d) in an edition (e): halves, both signs side by side, exact quotients, and the ends of its range.
 use crate::print;
 
 // A rounded quotient, or that the arguments are outside the range that the rounding asks for.
@@ -84,6 +84,32 @@ fn small(e: u8) {
     near(e, -7, 2);
 }
 
+// -7 to 7 over d, each beside its mirror image: opposite numbers in edition 2, and in edition 1 but for halves.
+fn mirrored(e: u8, d: i64) {
+    near(e, 0, d);
+    near(e, -1, d);
+    near(e, 1, d);
+    near(e, -2, d);
+    near(e, 2, d);
+    near(e, -3, d);
+    near(e, 3, d);
+    near(e, -4, d);
+    near(e, 4, d);
+    near(e, -5, d);
+    near(e, 5, d);
+    near(e, -6, d);
+    near(e, 6, d);
+    near(e, -7, d);
+    near(e, 7, d);
+}
+
+fn table(e: u8) {
+    mirrored(e, 1);
+    mirrored(e, 2);
+    mirrored(e, 3);
+    mirrored(e, 4);
+}
+
 // Up to 2^62 over 2^61. (2^62 - 1)/2 is a half.
 fn large(e: u8) {
     near(e, 4611686018427387904, 1);
@@ -91,6 +117,8 @@ fn large(e: u8) {
     near(e, 4611686018427387903, 2);
     near(e, -4611686018427387903, 2);
     near(e, 4611686018427387904, 3);
+    near(e, -4611686018427387904, 3);
+    near(e, 4611686018427387904, 2305843009213693952);
     near(e, -4611686018427387904, 2305843009213693952);
     near(e, 1152921504606846976, 2305843009213693952);
     near(e, -1152921504606846976, 2305843009213693952);
@@ -114,6 +142,7 @@ fn large_unsigned(e: u8) {
 
 pub fn run(e: u8) {
     small(e);
+    table(e);
     large(e);
     large_unsigned(e);
 }
