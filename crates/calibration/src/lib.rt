@@ -1,3 +1,5 @@
+#![tactic(auto)]
+
 ghost use Rattle.std.specs.Prelude.{◌≡◌, true, false, ◌+◌, ◌-◌, ◌*◌, ◌<◌, ◌≤◌, ◌^◌, leb, pos, negsuc, nat_abs, ◌+ℤ◌, ◌-ℤ◌, ◌*ℤ◌, ◌<ℤ◌, ◌≤ℤ◌, take, length};
 ghost use Rattle.std.specs.Int.Signed.{le_z};
 ghost use Rattle.charts.specs.Tests.{if◌then◌else◌};
@@ -10,15 +12,15 @@ ghost use Rattle.calibration.specs.LentListLaws.{gather_of, gathered_fit, gather
 ghost use Rattle.calibration.specs.CodeLaws.{SumsRanged, dispersion_of, slope_code, with_residual_of};
 
 // A concentration in analyser conditions.
-#[derive(Drop)]
+#[derive(Clone, Copy)]
 pub struct Actual(pub i32);
 
 // A concentration in standard conditions. Of an `Actual`, only `standard_conditions` makes one.
-#[derive(Drop)]
+#[derive(Clone, Copy)]
 pub struct Standard(pub i32);
 
 // Paper 01's t, p, h and o.
-#[derive(Drop)]
+#[derive(Clone, Copy)]
 pub struct Conditions {
     pub temperature: i32,
     pub pressure: i32,
@@ -27,7 +29,7 @@ pub struct Conditions {
 }
 
 // What the fit takes of a pair: the analyser's signal x, the reference method's value y, and the conditions.
-#[derive(Drop)]
+#[derive(Clone, Copy)]
 pub struct Pair {
     pub signal: i32,
     pub srm: Actual,
@@ -35,7 +37,7 @@ pub struct Pair {
 }
 
 // The limit E, the required uncertainty σ and the reference oxygen.
-#[derive(Drop)]
+#[derive(Clone, Copy)]
 pub struct Requirements {
     pub limit: i32,
     pub uncertainty: i32,
@@ -43,21 +45,21 @@ pub struct Requirements {
 }
 
 // What a lent list of pairs comes with, beside Z: the edition to round by, and E, σ and the reference oxygen.
-#[derive(Drop)]
+#[derive(Clone, Copy)]
 pub struct Basis {
     pub edition: u8,
     pub requirements: Requirements,
 }
 
 // A calibration function: slope B and intercept A.
-#[derive(Drop)]
+#[derive(Clone, Copy)]
 pub struct Line {
     pub slope: i32,
     pub intercept: i64,
 }
 
 // N, Σx, Σy, Σxy and Σx².
-#[derive(Drop)]
+#[derive(Clone, Copy)]
 pub struct Sums {
     pub n: u32,
     pub x: i64,
@@ -67,14 +69,14 @@ pub struct Sums {
 }
 
 // The least and the greatest of some concentrations.
-#[derive(Drop)]
+#[derive(Clone, Copy)]
 pub struct Span {
     pub low: Standard,
     pub high: Standard,
 }
 
 // The greatest calibrated value, ΣD and ΣD².
-#[derive(Drop)]
+#[derive(Clone, Copy)]
 pub struct Residuals {
     pub most: Standard,
     pub sum: i64,
@@ -82,7 +84,7 @@ pub struct Residuals {
 }
 
 // The outcome of a fit: a refusal (0 for none), or the verdict, the function, its top and N.
-#[derive(Drop)]
+#[derive(Clone, Copy)]
 pub struct Fitted {
     pub refusal: u32,
     pub passed: bool,
@@ -92,7 +94,7 @@ pub struct Fitted {
 }
 
 // What is kept of a lent list: its first thirty pairs, their count (31 where there are more), and whether all of its pairs are in range.
-#[derive(Drop)]
+#[derive(Clone, Copy)]
 struct Gathered {
     pairs: [Pair; 30],
     count: u32,
@@ -100,7 +102,7 @@ struct Gathered {
 }
 
 // The outcome of an annual test: a refusal (0 for none), or the two verdicts.
-#[derive(Drop)]
+#[derive(Clone, Copy)]
 pub struct Tested {
     pub refusal: u32,
     pub variability: bool,

@@ -12,7 +12,7 @@ use calibration::{Actual, Conditions, Fitted, Line, Pair, Requirements, Tested};
 // ---- what a case is given
 
 // The requirements, Z, the conditions of the first pair and those of all others. An annual test leaves Z aside.
-#[derive(Drop)]
+#[derive(Clone, Copy)]
 pub struct Setup {
     pub requirements: Requirements,
     pub z: i32,
@@ -120,19 +120,19 @@ fn ranged(pairs: [Pair; 30], n: u32, q: Requirements) -> bool
 
 // ---- the calls, where their arguments are in range
 
-#[derive(Drop)]
+#[derive(Clone, Copy)]
 enum ValueOutcome {
     Is(i32),
     Outside,
 }
 
-#[derive(Drop)]
+#[derive(Clone, Copy)]
 enum FitOutcome {
     Is(Fitted),
     Outside,
 }
 
-#[derive(Drop)]
+#[derive(Clone, Copy)]
 enum TestOutcome {
     Is(Tested),
     Outside,

@@ -1,3 +1,5 @@
+#![tactic(auto)]
+
 // Runs worked cases of each layer and prints what the code answers, a line for each. The file `stdout` has what must come out.
 // Its numbers were not taken from a run: they were worked out from the formulas of paper 01, by a few lines of Python over whole
 // numbers and fractions (near(x) as floor(x + 1/2), in edition 2 as Python's `round` of a fraction; a sum and its count as

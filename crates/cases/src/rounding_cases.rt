@@ -2,13 +2,13 @@
 use crate::print;
 
 // A rounded quotient, or that the arguments are outside the range that the rounding asks for.
-#[derive(Drop)]
+#[derive(Clone, Copy)]
 enum Quotient {
     Whole(i64),
     Outside,
 }
 
-#[derive(Drop)]
+#[derive(Clone, Copy)]
 enum UnsignedQuotient {
     Whole(u64),
     Outside,

@@ -9,7 +9,7 @@ use charts::Chart;
 use libc::STDIN_FILENO;
 use records::state::{Calibration, Demand, State, Stepped};
 
-#[derive(Drop)]
+#[derive(Clone, Copy)]
 enum Command {
     New,
     Record,

@@ -9,7 +9,7 @@ use records::state::State;
 
 // What a script works on: a state, one that was kept, the record that is prepared, the listed records, the run of blocks, what the last call
 // left in its target, and the edition that is told.
-#[derive(Drop)]
+#[derive(Clone, Copy)]
 pub struct Desk {
     pub state: State,
     pub kept: State,
@@ -99,7 +99,7 @@ fn tell(refusal: u32, index: u32, target: [u8; 600]) {
 }
 
 // The answer of a call that has a target, and the target after it.
-#[derive(Drop)]
+#[derive(Clone, Copy)]
 struct Answer {
     state: State,
     refusal: u32,
@@ -189,7 +189,7 @@ fn prepared(desk: Desk) -> Desk {
 }
 
 // A closing by the numbers: kind, minute and Z.
-#[derive(Drop)]
+#[derive(Clone, Copy)]
 pub struct Closing {
     pub kind: u8,
     pub minute: u32,

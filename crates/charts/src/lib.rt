@@ -1,3 +1,5 @@
+#![tactic(auto)]
+
 ghost use Rattle.std.specs.Prelude.{◌≡◌, ◌+◌, ◌-◌, ◌*◌, ◌<◌, ◌≤◌, ◌^◌, pos, nat_abs, ◌+ℤ◌, ◌-ℤ◌, ◌<ℤ◌};
 ghost use Rattle.charts.specs.Rounding.{edition_known, near_of, rounds_up};
 ghost use Rattle.charts.specs.Division.{division_of};
@@ -7,7 +9,7 @@ ghost use Rattle.charts.specs.Soundness.{Ranged, Sound, ranged_of, sound_of, wit
 ghost use Rattle.charts.specs.CodeLaws.{apart_of};
 
 // The floor of n / d, and what is left over: the rest, in 0..d-1.
-#[derive(Drop)]
+#[derive(Clone, Copy)]
 pub struct Division {
     pub whole: i64,
     pub rest: i64,
@@ -70,7 +72,7 @@ pub fn near_unsigned(edition: u8, n: u64, d: u64) -> u64
 }
 
 // One sum of a chart (paper 01: P, M or V) with the count of the readings in it.
-#[derive(Drop)]
+#[derive(Clone, Copy)]
 pub struct Sum {
     pub value: u64,
     pub count: u32,
@@ -78,7 +80,7 @@ pub struct Sum {
 
 // A control chart: P, M and V, the last difference, the count of readings since the reset, and the two adjustments,
 // downward at a rising alarm and upward at a falling one.
-#[derive(Drop)]
+#[derive(Clone, Copy)]
 pub struct Chart {
     pub started: bool,
     pub readings: u32,
@@ -90,7 +92,7 @@ pub struct Chart {
     pub upward: u64,
 }
 
-#[derive(Drop)]
+#[derive(Clone, Copy)]
 pub struct Alarms {
     pub rising: bool,
     pub falling: bool,

@@ -13,7 +13,7 @@ use records::state::State;
 use records::{bytes, closing};
 
 // The answer to making a closing: the row that refused (0: none), and the place of the record that it refused (255: no record's row).
-#[derive(Drop)]
+#[derive(Clone, Copy)]
 pub struct Made {
     pub refusal: u32,
     pub index: u32,

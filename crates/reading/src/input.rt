@@ -3,7 +3,7 @@ ghost use Rattle.std.specs.Prelude.{◌≤◌, length};
 ghost use Rattle.io.specs.Counts.{IsPrefixLen};
 
 // How many bytes came, and whether a read failed.
-#[derive(Drop)]
+#[derive(Clone, Copy)]
 pub struct Filled {
     pub count: usize,
     pub failed: bool,

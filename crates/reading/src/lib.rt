@@ -1,3 +1,5 @@
+#![tactic(auto)]
+
 // The reader program: blocks come in, a line for each goes out, and then the report.
 mod input;
 mod lines;

@@ -1,3 +1,5 @@
+#![tactic(auto)]
+
 // Records and the state that they lead to.
 pub mod apply;
 pub mod bytes;

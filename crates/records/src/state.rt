@@ -3,7 +3,7 @@ use calibration::{Line, Pair, Requirements, Standard};
 use charts::Chart;
 
 // What the first record sets: E, σ and the reference oxygen, s of each chart, and the response minutes.
-#[derive(Drop)]
+#[derive(Clone, Copy)]
 pub struct Setting {
     pub requirements: Requirements,
     pub zero: u16,
@@ -12,7 +12,7 @@ pub struct Setting {
 }
 
 // A pair that waits for a closing: its start, its end, and its figures.
-#[derive(Drop)]
+#[derive(Clone, Copy)]
 pub struct Waiting {
     pub start: u32,
     pub end: u32,
@@ -20,7 +20,7 @@ pub struct Waiting {
 }
 
 // The figures of a calibration with its minute.
-#[derive(Drop)]
+#[derive(Clone, Copy)]
 pub struct Function {
     pub slope: i32,
     pub intercept: i64,
@@ -29,14 +29,14 @@ pub struct Function {
 }
 
 // The calibration in force.
-#[derive(Drop)]
+#[derive(Clone, Copy)]
 pub enum Calibration {
     Absent,
     InForce(Function),
 }
 
 // The first call for a new calibration since the last passed one, with its minute.
-#[derive(Drop)]
+#[derive(Clone, Copy)]
 pub enum Demand {
     Quiet,
     Since(u32),
@@ -44,7 +44,7 @@ pub enum Demand {
 
 // The standing: an analyser, the block number that it expects, a summary of the accepted records, and the edition of the block that is open,
 // or between blocks that of the last one taken or formed: 0 before the first.
-#[derive(Drop)]
+#[derive(Clone, Copy)]
 pub struct State {
     pub analyser: u32,
     pub next: u32,
@@ -64,7 +64,7 @@ pub struct State {
 }
 
 // What becomes of a state and a record: the refusal (0 for none), and the state after it.
-#[derive(Drop)]
+#[derive(Clone, Copy)]
 pub struct Stepped {
     pub refusal: u32,
     pub state: State,

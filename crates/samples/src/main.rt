@@ -1,3 +1,5 @@
+#![tactic(auto)]
+
 // Runs the reader over each file that an argument names, under a line with the file's name.
 use libc::STDOUT_FILENO;
 

@@ -8,8 +8,7 @@ use Prim.Native.Nat.{ℕ, ◌*◌, ◌-◌, ◌<◌}
 use lib.Dec.{eqb, ltb}
 use Rattle.charts.specs.Tests.{answers_lt, answers_as, same_answer}
 use Rattle.charts.specs.Rounding.{rounds_up}
-use Rattle.charts.proofs.rounds_up.Statement.{statement}
-use Rattle.charts.proofs.rounds_up.Tie as tie
+use Rattle.charts.proofs.rounds_up.Goals as goal
 
 over-half : (r d : ℕ) → r < d → ltb (d - r) r ≡ ltb d (2 * r)
 over-half r d h = same_answer (answers_lt (d - r) r) (answers_as (answers_lt d (2 * r)) (λ k. omega arith) (λ k. omega arith))
@@ -21,12 +20,9 @@ at-half r d h = go (eqb d (2 * r)) refl
     go true e = let k = eqb-true d (2 * r) e in eq-eqb (d - r) r (omega arith) ∙ sym e
     go false e = let n = eqb-false d (2 * r) e in ne_eqb (d - r) r (λ k. n (omega arith)) ∙ sym e
 
-sub-left : tie.Need-overflow-sub-left
-sub-left c = search rules
+pub overflow_sub-left : goal.overflow_sub-left
+overflow_sub-left c = search rules
 
-returns : tie.Need-returns
+pub returns : goal.returns
 unfolding rounds_up
 returns c = let a = c.args in rw (over-half a.r a.d c.requires, at-half a.r a.d c.requires)
-
-pub rounds-up-spec : {M : Type 1} → statement M
-rounds-up-spec = tie.close (tie.spec sub-left returns)

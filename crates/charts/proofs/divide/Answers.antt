@@ -11,8 +11,8 @@ use mir.Val.{SFits, to_z}
 use Rattle.charts.specs.Integers.{abs_sum, abs_diff, abs_sfits}
 use Rattle.charts.specs.SignedLocals.{Loc, arg, lit, on, cast_u, add, add_need, sub, sub_need, div_need, quot, rem}
 use Rattle.charts.specs.RoundingLaws.{abs_quot, abs_rem, quot_once, divided_raised, division_unique}
-use Rattle.charts.proofs.divide.Statement.{statement}
-use Rattle.charts.proofs.divide.Tie as tie
+use Rattle.charts.proofs.divide.Goals as goal
+use Rattle.charts.proofs.divide.Goals.{Start}
 
 abbrev Zero : Loc w64
 Zero = lit 0 (lit< tt)
@@ -24,7 +24,7 @@ One = lit 1 (lit< tt)
 abbrev held : {w : Width} {z : ℤ} → SFits w z → Loc w
 held {z} f = arg z f
 
-module _ (c : tie.Start) where
+module _ (c : Start) where
   d-pos : pos 0 <ℤ c.args.d
   d-pos = c.requires.1
 
@@ -46,16 +46,16 @@ module _ (c : tie.Start) where
   plus-fits : (A : Loc w64) → nat_abs A.num ≤ nat_abs D.num → SFits w64 (plus A)
   plus-fits A h = abs_sfits (omega (arith, plus-small A h, c.requires.2))
 
-rem-r : tie.Need-nonzero-rem-r
-rem-r c = div_need (N c) (D c) (d-pos c)
+pub nonzero_rem-r : goal.nonzero_rem-r
+nonzero_rem-r c = div_need (N c) (D c) (d-pos c)
 
 -- safe with d added, and it would be with 0 (the must-fail edit `remainder_below_zero`): only the equation tells the two apart
-add_r : tie.Need-overflow-add-r
-add_r c = search (plus-fits c (D c) (omega arith), plus-fits c Zero (omega arith))
+pub overflow_add-r : goal.overflow_add-r
+overflow_add-r c = search (plus-fits c (D c) (omega arith), plus-fits c Zero (omega arith))
 
-module _ (c : tie.Start) where
+module _ (c : Start) where
   abbrev R : Loc w64
-  R = held (add_r c)
+  R = held (overflow_add-r c)
 
   r_small : nat_abs R.num < 2 * nat_abs (D c).num
   r_small = search (plus-small c (D c) (omega arith), plus-small c Zero (omega arith))
@@ -71,27 +71,24 @@ module _ (c : tie.Start) where
       add Q (quot R (D c) (d-pos c))
       (abs_sfits (omega (arith, abs_sum Q.num (quot_z R.num (D c).num), q-small, quot_once R.num (D c).num (d-pos c) r_small)))
 
-div-t4 : tie.Need-nonzero-div-t4
-div-t4 c = div_need (N c) (D c) (d-pos c)
+pub nonzero_div-result : goal.nonzero_div-result
+nonzero_div-result c = div_need (N c) (D c) (d-pos c)
 
-sub-t5 : tie.Need-overflow-sub-t5
-sub-t5 c = sub_need (quot (N c) (D c) (d-pos c)) One (Q c).fit
+pub overflow_sub-result : goal.overflow_sub-result
+overflow_sub-result c = sub_need (quot (N c) (D c) (d-pos c)) One (Q c).fit
 
-div-t6 : tie.Need-nonzero-div-t6
-div-t6 c = div_need (R c) (D c) (d-pos c)
+pub nonzero_div-result-2 : goal.nonzero_div-result-2
+nonzero_div-result-2 c = div_need (R c) (D c) (d-pos c)
 
-add-t7 : tie.Need-overflow-add-t7
-add-t7 c = add_need (Q c) (quot (R c) (D c) (d-pos c)) (W c).fit
+pub overflow_add-result : goal.overflow_add-result
+overflow_add-result c = add_need (Q c) (quot (R c) (D c) (d-pos c)) (W c).fit
 
-rem-t8 : tie.Need-nonzero-rem-t8
-rem-t8 c = div_need (R c) (D c) (d-pos c)
+pub nonzero_rem-result : goal.nonzero_rem-result
+nonzero_rem-result c = div_need (R c) (D c) (d-pos c)
 
-returns : tie.Need-returns
+pub returns : goal.returns
 returns c =
     let n = c.args.n in
     let d = c.args.d in
     let raised : (R c).num ≡ rem_z n d +ℤ d = on (rem (N c) (D c) (d-pos c)) (D c) (λ u v. u +ℤ v) in
     rw ((W c).reads, (rem (R c) (D c) (d-pos c)).reads, raised) (division_unique n d (d-pos c) (divided_raised n d (d-pos c)))
-
-pub divide-spec : {M : Type 1} → statement M
-divide-spec = tie.close (tie.spec rem-r add_r div-t4 sub-t5 div-t6 add-t7 rem-t8 returns)

@@ -9,13 +9,13 @@ use mir.Syntax.{w32, w64}
 use mir.Facts.{sfits_widen}
 use Rattle.charts.specs.Integers.{sum, one_zero, abs_ud, abs_sfits, le_ud, ud_le}
 use Rattle.charts.specs.SignedLocals.{Loc, arg, lit, cast, cast_need, add, add_need, cast_u_need, cast_u}
-use Rattle.charts.proofs.raised.Statement.{statement}
-use Rattle.charts.proofs.raised.Tie as tie
+use Rattle.charts.proofs.raised.Goals as goal
+use Rattle.charts.proofs.raised.Goals.{Start}
 
 abbrev B : Loc w64
 B = lit 800000 (lit< tt)
 
-module _ (c : tie.Start) where
+module _ (c : Start) where
   abbrev D₀ : Loc w32
   D₀ = arg c.args.d c.ranges.d
 
@@ -31,17 +31,14 @@ module _ (c : tie.Start) where
   above : pos 0 ≤ℤ R.num
   above = ud_le (omega (arith, sum D.num B.num, le_ud c.requires.low))
 
-cast-result : tie.Need-overflow-cast-result
-cast-result c = cast_need w64 (D₀ c) (D c).fit
+pub overflow_cast-result : goal.overflow_cast-result
+overflow_cast-result c = cast_need w64 (D₀ c) (D c).fit
 
-add-result : tie.Need-overflow-add-result
-add-result c = add_need (D c) B (R c).fit
+pub overflow_add-result : goal.overflow_add-result
+overflow_add-result c = add_need (D c) B (R c).fit
 
-cast-result-2 : tie.Need-overflow-cast-result-2
-cast-result-2 c = cast_u_need w64 (R c) (above c) (omega (arith, small c))
+pub overflow_cast-result-2 : goal.overflow_cast-result-2
+overflow_cast-result-2 c = cast_u_need w64 (R c) (above c) (omega (arith, small c))
 
-returns : tie.Need-returns
+pub returns : goal.returns
 returns c = (ap pos (cast_u (R c)) ∙ pos-nat_abs (R c).num (yes_non_neg (above c)), omega (arith, cast_u (R c), small c))
-
-pub raised-spec : {M : Type 1} → statement M
-raised-spec = tie.close (tie.spec cast-result add-result cast-result-2 returns)

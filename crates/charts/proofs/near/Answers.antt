@@ -14,8 +14,23 @@ use Rattle.charts.specs.SignedLocals.{Loc, arg, lit, on, add, add_need, rem, div
 use Rattle.charts.specs.Rounding.{odd, rounds_up, near_of}
 use Rattle.charts.specs.RoundingLaws.{abs_rem, odd_signed, near_up, near_down, near_bound, division_parts}
 use Rattle.charts.specs.Division.{Divided}
-use Rattle.charts.proofs.near.Statement.{statement}
+use Rattle.charts.proofs.near.Goals as goal
+use Rattle.charts.proofs.near.Lts as lts
 use Rattle.charts.proofs.near.Tie as tie
+use Rattle.charts.proofs.near.Reads as reads
+use Rattle.charts.proofs.near.Goals.{Start}
+
+abbrev At-After-divide-p : Type 0
+At-After-divide-p = lts.After-divide tie.the-claims reads.Pre reads.Post
+
+abbrev At-After-rounds_up : Type 0
+At-After-rounds_up = lts.After-rounds_up tie.the-claims reads.Pre reads.Post
+
+abbrev At-After-struct_told-2-1 : Type 0
+At-After-struct_told-2-1 = lts.After-struct_told2 tie.the-claims reads.Pre reads.Post
+
+abbrev At-Then-rounds_up : Type 0
+At-Then-rounds_up = lts.Then1 tie.the-claims reads.Pre reads.Post
 
 abbrev One : Loc w64
 One = lit 1 (lit< tt)
@@ -32,7 +47,7 @@ bit (pos n) h = refl
 bit (negsuc zero) h = refl
 bit (negsuc (suc n)) h = absurd (omega arith)
 
-module _ (c : tie.Start) where
+module _ (c : Start) where
   abbrev N : Loc w64
   N = arg c.args.n c.ranges.n
 
@@ -41,7 +56,7 @@ module _ (c : tie.Start) where
 
 -- ---- after the division
 
-module _ (c : tie.After-divide) where
+module _ (c : At-After-divide-p) where
   abbrev n : ℤ
   n = c.before.args.n
 
@@ -49,16 +64,16 @@ module _ (c : tie.After-divide) where
   d = c.before.args.d
 
   abbrev whole : ℤ
-  whole = c.divide.result.whole
+  whole = c.divide-p.result.whole
 
   abbrev rest : ℤ
-  rest = c.divide.result.rest
+  rest = c.divide-p.result.rest
 
   d-pos : pos 0 <ℤ d
   d-pos = c.before.requires.1
 
   parts : Divided n d whole rest
-  parts = division_parts d-pos (rw ((N c.before).reads, (D c.before).reads) at c.divide.ensures)
+  parts = division_parts d-pos (rw ((N c.before).reads, (D c.before).reads) at c.divide-p.ensures)
 
   abbrev W : Loc w64
   W = arg whole (search rules)
@@ -80,57 +95,52 @@ module _ (c : tie.After-divide) where
 
 -- ---- at the test
 
-abbrev after : tie.After-struct-told2 → tie.After-divide
+abbrev after : At-After-struct_told-2-1 → At-After-divide-p
 after c = c.before.before.before.before
 
-told : (c : tie.After-rounds-up) → let p = after c.before in c.rounds-up.result ≡ rounds_up p.before.args.edition (odd (whole p)) (nat_abs (rest p)) (nat_abs (d p))
+told : (c : At-After-rounds_up) → let p = after c.before in c.rounds_up.result ≡ rounds_up p.before.args.edition (odd (whole p)) (nat_abs (rest p)) (nat_abs (d p))
 told c =
     let p = after c.before in
     let e = p.before.args.edition in
-    c.rounds-up.ensures
+    c.rounds_up.ensures
     ∙ ap (λ (o : Bool). rounds_up e o (nat_abs (to_z w64 (R p).bits)) (nat_abs (to_z w64 (D p.before).bits))) (odd_is p)
     ∙ ap (λ (r : ℕ). rounds_up e (odd (whole p)) r (nat_abs (to_z w64 (D p.before).bits))) (cast_u (R p))
     ∙ ap (λ (m : ℕ). rounds_up e (odd (whole p)) (nat_abs (rest p)) m) (cast_u (D p.before))
 
 -- where it says so
-up : (c : tie.Then1) → let p = after c.before.before in whole p +ℤ pos 1 ≡ near_of p.before.args.edition (n p) (d p)
-up c = let p = after c.before.before in near_up p.before.args.edition (n p) (d p) (d-pos p) (parts p) (sym (told c.before) ∙ c.if1.true)
+up : (c : At-Then-rounds_up) → let p = after c.before.before in whole p +ℤ pos 1 ≡ near_of p.before.args.edition (n p) (d p)
+up c = let p = after c.before.before in near_up p.before.args.edition (n p) (d p) (d-pos p) (parts p) (sym (told c.before) ∙ c.if-rounds_up.true)
 
-abbrev Next : tie.Then1 → Loc w64
+abbrev Next : At-Then-rounds_up → Loc w64
 Next c = let p = after c.before.before in add (W p) One (abs_sfits (rw (up c) (omega (arith, near-small p))))
 
 -- ---- the needs
 
-divide-requires : tie.Need-divide-requires
-divide-requires c κs = rw ((N c).reads, (D c).reads) c.requires
+pub divide-p-requires : goal.divide-p-requires
+divide-p-requires c = rw ((N c).reads, (D c).reads) c.requires
 
-rem-rounds-up : tie.Need-nonzero-rem-rounds-up
-rem-rounds-up c = div_need (W c.before.before) Two two_pos
+pub nonzero_rem-p : goal.nonzero_rem-p
+nonzero_rem-p c = div_need (W c.before.before.before) Two two_pos
 
-cast-rounds-up : tie.Need-overflow-cast-rounds-up
-cast-rounds-up c = let p = after c in cast_u_need w64 (R p) (parts p).low (omega (arith, rest-small p, p.before.pre.2))
+pub overflow_cast-p : goal.overflow_cast-p
+overflow_cast-p c = let p = after c.before in cast_u_need w64 (R p) (parts p).low (omega (arith, rest-small p, p.before.requires.2))
 
-cast-rounds-up-2 : tie.Need-overflow-cast-rounds-up-2
-cast-rounds-up-2 c = let p = after c in cast_u_need w64 (D p.before) (ud_le (omega (arith, lt_ud (d-pos p)))) (omega (arith, p.before.pre.2))
+pub overflow_cast-d : goal.overflow_cast-d
+overflow_cast-d c = let p = after c.before in cast_u_need w64 (D p.before) (ud_le (omega (arith, lt_ud (d-pos p)))) (omega (arith, p.before.requires.2))
 
-rounds-up-requires : tie.Need-rounds-up-requires
-rounds-up-requires c κs = let p = after c in omega (arith, cast_u (R p), cast_u (D p.before), rest-small p)
+pub rounds_up-requires : goal.rounds_up-requires
+rounds_up-requires c = let p = after c.before in omega (arith, cast_u (R p), cast_u (D p.before), rest-small p)
 
-add-result : tie.Need-overflow-add-result
-add-result c =
+pub overflow_add-result : goal.overflow_add-result
+overflow_add-result c =
     let t = c.before.before in
     add_need (W (after t.before.before)) One (Next t).fit
 
-returns : tie.Need-returns
-returns c = let t = c.before.before in (Next t).reads ∙ up t
+pub returns-then-rounds_up : goal.returns-then-rounds_up
+returns-then-rounds_up c = let t = c.before.before in (Next t).reads ∙ up t
 
-returns-2 : tie.Need-returns-2
-returns-2 c =
+pub returns : goal.returns
+returns c =
     let t = c.before in
     let p = after t.before.before in
-    (W p).reads ∙ near_down p.before.args.edition (n p) (d p) (d-pos p) (parts p) (sym (told t.before) ∙ t.if1.false)
-
-pub near-spec : {M : Type 1} → statement M
-near-spec =
-    tie.close
-    (tie.spec divide-requires rem-rounds-up cast-rounds-up cast-rounds-up-2 rounds-up-requires add-result returns returns-2)
+    (W p).reads ∙ near_down p.before.args.edition (n p) (d p) (d-pos p) (parts p) (sym (told t.before) ∙ t.if-rounds_up.false)

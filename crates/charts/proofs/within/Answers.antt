@@ -4,26 +4,22 @@ use borrow.Author.Tests.{lt-leb, le-leb}
 use native.Mathlib.Omega.{arith}
 use native.Mathlib.Nat.{mul-le-mul}
 use Rattle.charts.specs.Soundness.{within_of}
-use Rattle.charts.proofs.within.Statement.{statement}
-use Rattle.charts.proofs.within.Tie as tie
+use Rattle.charts.proofs.within.Goals as goal
 use Rattle.charts.proofs.within.Reads as reads
 use Rattle.charts.proofs.within.Lts as lts
 
-returns : tie.Need-returns
+pub returns-then-readings-u : goal.returns-then-readings-u
 unfolding within_of
-returns c = simp (lt-leb _ _ c.if1.true)
+returns-then-readings-u c = simp (lt-leb _ _ c.if-readings-u.true)
 
-cast-result : tie.Need-overflow-cast-result
-cast-result c = search rules
+pub overflow_cast-result : goal.overflow_cast-result
+overflow_cast-result c = search rules
 
-mul-result : tie.Need-overflow-mul-result
-mul-result c =
+pub overflow_mul-result : goal.overflow_mul-result
+overflow_mul-result c =
     let a = c.before.before.before.args in
     omega (arith, mul-le-mul {n₁ = a.most} {m₁ = a.u.count} {n₂ = 14400000000000} {m₂ = 100000} (omega arith) (omega arith))
 
-returns-2 : tie.Need-returns-2
+pub returns : goal.returns
 unfolding within_of
-returns-2 c = simp (le-leb _ _ c.before.before.if1.false)
-
-pub within-spec : {M : Type 1} → statement M
-within-spec = tie.close (tie.spec returns cast-result mul-result returns-2)
+returns c = simp (le-leb _ _ c.before.before.if-readings-u.false)
