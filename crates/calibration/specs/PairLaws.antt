@@ -49,7 +49,7 @@ wide_between a b {z} f e = e ∙ ap (between_of a b) (wide z f).reads
 -- ---- the reference oxygen and σ, as the code reads them
 module _ {q : Requirements} (Q : RequirementsRanged q) where
   pub oxygen_reads : to_z w32 (of_z w32 q.oxygen) ≡ q.oxygen
-  oxygen_reads = to_z-of_z (between_fits tt Q.oxygen)
+  oxygen_reads = to_z-of_z {w = w32} (between_fits tt Q.oxygen)
 
   abbrev U : Loc w32
   U = arg q.uncertainty (between_fits tt Q.uncertainty)

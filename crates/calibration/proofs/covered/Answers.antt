@@ -1,0 +1,63 @@
+-- `calibration::covered` meets its contract.
+use borrow.Author.Rules.{rules}
+use mathlib.Core.Path.{◌∙◌, ap}
+use Prim.Native.Nat.{ℕ, ◌-◌, ◌*◌, ◌/◌, ◌%◌, ◌≤◌}
+use native.Mathlib.Omega.{arith}
+use native.Mathlib.Nat.{mul-le-mul}
+use lib.Dec.{leb}
+use Rattle.calibration.specs.CodeLaws.{split_million}
+use Rattle.calibration.proofs.covered.Goals as goal
+use Rattle.calibration.proofs.covered.Goals.{After-t_factor-t, Start}
+
+module _ (c : Start) where
+  l-small : c.args.l * c.args.l ≤ 360000000000000000
+  l-small = mul-le-mul {n₂ = 600000000} {m₂ = 600000000} (omega arith) (omega arith)
+
+  left-small : (c.args.n - 1) * (c.args.l * c.args.l) ≤ 2520000000000000000
+  left-small = mul-le-mul {n₂ = 7} {m₂ = 360000000000000000} (omega arith) l-small
+
+module _ (c : After-t_factor-t) where
+  t-small : c.t_factor-t.result * c.t_factor-t.result ≤ 9000000
+  t-small = mul-le-mul {n₂ = 3000} {m₂ = 3000} c.t_factor-t.ensures.1 c.t_factor-t.ensures.1
+
+  right-small : c.t_factor-t.result * c.t_factor-t.result * (c.before.args.q / 1000000) ≤ 9000000000000000000
+  right-small = mul-le-mul {n₂ = 9000000} {m₂ = 1000000000000} t-small (omega arith)
+
+  rest-small : c.t_factor-t.result * c.t_factor-t.result * (c.before.args.q % 1000000) ≤ 9000000000000
+  rest-small = mul-le-mul {n₂ = 9000000} {m₂ = 1000000} t-small (omega arith)
+
+pub t_factor-t-requires : goal.t_factor-t-requires
+t_factor-t-requires c = search rules
+
+pub overflow_cast-t : goal.overflow_cast-t
+overflow_cast-t c = search rules
+
+pub overflow_mul-tt : goal.overflow_mul-tt
+overflow_mul-tt c = omega (arith, t-small c)
+
+pub overflow_sub-result : goal.overflow_sub-result
+overflow_sub-result c = search rules
+
+pub overflow_cast-result : goal.overflow_cast-result
+overflow_cast-result c = search rules
+
+pub overflow_mul-result : goal.overflow_mul-result
+overflow_mul-result c = omega (arith, l-small c.before)
+
+pub overflow_mul-result-2 : goal.overflow_mul-result-2
+overflow_mul-result-2 c = omega (arith, left-small c.before)
+
+pub overflow_mul-result-3 : goal.overflow_mul-result-3
+overflow_mul-result-3 c = omega (arith, right-small c)
+
+pub overflow_mul-result-4 : goal.overflow_mul-result-4
+overflow_mul-result-4 c = omega (arith, rest-small c)
+
+pub overflow_add-result : goal.overflow_add-result
+overflow_add-result c = omega (arith, right-small c, rest-small c)
+
+pub returns : goal.returns
+returns c =
+    let a = c.before.args in
+    let t = c.t_factor-t.result in
+    split_million ((a.n - 1) * (a.l * a.l)) (t * t) a.q ∙ ap (λ (x : ℕ). leb ((a.n - 1) * (a.l * a.l) * 1000000) (x * x * a.q)) c.t_factor-t.ensures.0
