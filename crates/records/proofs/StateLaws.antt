@@ -9,4 +9,4 @@ use Rattle.records.specs.declared.state.State.{State}
 use Rattle.records.specs.contracts.state.State.{the_type}
 
 pub thirty : (st : State) (vs : List Val) → Is (row the_type) st vs → length st.pairs ≡ 30
-thirty st vs g = sym (length-map st.pairs _) ∙ g.1.1.1.1.1.1.1.1.1.1.0.1.0.1
+thirty st vs g = g.1.1.1.1.1.1.1.1.1.1.0.1.0.1

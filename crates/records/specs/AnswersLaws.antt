@@ -48,7 +48,7 @@ silent_says : (c : Point) (h : History) (st : State) → Agrees h st → Answers
 silent_says c h st A =
     answers_as
     (answers_and (answers_and (answers_not (alarm_says c rising h st A)) (answers_not (alarm_says c falling h st A))) (answers_not (alarm_says c precision h st A)))
-    (λ p a. elim a [ rising ↦ p.0.0 | falling ↦ p.0.1 | precision ↦ p.1 ])
+    (λ p a. elim a as (λ a. ¬ AlarmStands c a h) [ rising ↦ p.0.0 | falling ↦ p.0.1 | precision ↦ p.1 ])
     (λ f. ((f rising, f falling), f precision))
 
 young_says : (limit m : ℕ) (k : Calibration) → Answers (young_of limit m k) ((f : ℕ) × (minute_of k ≡ some f) × (m - f ≤ limit))
@@ -72,7 +72,7 @@ usable_says h st A =
     answers_as
     (answers_and (answers_and (silent_says at_zero h st A) (silent_says at_span h st A)) (answers_and young recent))
     (λ p. record {
-      quiet = λ c. elim c [ at_zero ↦ p.0.0 | at_span ↦ p.0.1 ];
+      quiet = λ c. elim c as (λ c. (a : Alarm) → ¬ AlarmStands c a h) [ at_zero ↦ p.0.0 | at_span ↦ p.0.1 ];
       from = p.1.0.0;
       in_force = p.1.0.1;
       young = p.1.0.2;

@@ -1,0 +1,178 @@
+-- `apply::apply` meets its contract.
+use mathlib.Core.Path.{◌≡◌, sym, ap, ◌∙◌}
+use native.Mathlib.Omega.{arith}
+use lib.ListN.{length, length-map, length-take}
+use Rattle.records.specs.Record.{Record, kind, mark, minute, mark_limit}
+use Rattle.records.specs.RecordLaws.{FormedFields, formed_fields, setting_ranged_lem, reading_ranged_lem, waiting_ranged_lem, value_ranged_lem}
+use Rattle.records.specs.Kinds.{sets}
+use Rattle.records.specs.Table.{reading_refusal}
+use Rattle.records.specs.TableLaws.{Accepted, accepted, reading_passed, pair_passed, PairPasses, pair_passes}
+use Rattle.records.specs.State.{facts_of}
+use Rattle.records.specs.StateParts.{with_setting, with_reading, with_reset, with_calibration, with_annual, emptied, judged_of}
+use Rattle.records.specs.SoundnessLaws.{setting_known}
+use Rattle.records.specs.declared.state.State.{State}
+use Rattle.records.proofs.ApplyLaws.{no_kind, judged_total, judged_outside, applied_setting, applied_reading, applied_reset, applied_pair, applied_calibration, applied_annual, applied_value, applied_drop}
+use borrow.Author.Rules.{rules}
+use Rattle.records.proofs.apply.apply.Goals as goal
+use Rattle.records.proofs.apply.apply.Lts as lts
+use Rattle.records.proofs.apply.apply.Tie as tie
+use Rattle.records.proofs.apply.apply.Reads as reads
+use Rattle.records.proofs.apply.apply.Goals.{Start}
+
+abbrev At-After-judged-s : Type 0
+At-After-judged-s = lts.After-judged tie.the-claims reads.Pre reads.Post
+
+abbrev state_of : At-After-judged-s → State
+state_of c = c.before.before.before.args.st
+
+abbrev recordOf : At-After-judged-s → Record
+recordOf c = c.before.before.before.args.r.now
+
+-- the array has thirty places: what its type says stands among what is known of the fields, at the ninth
+places : (c : Start) → length c.args.st.pairs ≡ 30
+places c = c.well_formed.0.1.1.1.1.1.1.1.1.1.1.0.1.0.1
+
+passed : (c : At-After-judged-s) → Accepted (facts_of (state_of c)) (recordOf c)
+passed c = accepted (facts_of (state_of c)) (recordOf c) c.before.before.before.requires.2
+
+judged-is : (c : At-After-judged-s) → c.judged-s.result ≡ judged_of (state_of c) (minute (recordOf c))
+unfolding minute
+judged-is c = c.judged-s.ensures ∙ ap (judged_of (state_of c)) c.before.read32.ensures
+
+pair_fits : (j : At-After-judged-s) → kind (recordOf j) ≡ 4 → PairPasses (facts_of (state_of j)) (recordOf j)
+pair_fits j k = pair_passes (facts_of (state_of j)) (recordOf j) (pair_passed (facts_of (state_of j)) (recordOf j) (passed j) k)
+
+record-formed : (c : At-After-judged-s) → FormedFields (recordOf c)
+record-formed c = formed_fields (recordOf c) (passed c).formed
+
+pub read32-requires : goal.read32-requires
+read32-requires c = search rules
+
+pub judged-s-requires : goal.judged-s-requires
+judged-s-requires c = search rules
+
+pub bounds-r-0 : goal.bounds-r-0
+bounds-r-0 c = search rules
+
+pub setting_of-requires : goal.setting_of-requires
+unfolding kind
+setting_of-requires c =
+    let j = c.before.before.before in
+    (j.before.before.before.requires.0, setting_ranged_lem (recordOf j) (passed j).ranged c.in-1.is)
+
+pub with_reading-requires : goal.with_reading-requires
+unfolding kind judged_of facts_of reading_refusal
+with_reading-requires c =
+    let j = c.before.before.before in
+    let s = j.before.before.before in
+    let A = passed j in
+    rw (judged-is j)
+    (s.requires.0, reading_ranged_lem (recordOf j) A.ranged c.in-2.is, reading_passed (facts_of (state_of j)) (recordOf j) A c.in-2.is, s.requires.1.zero, s.requires.1.span)
+
+pub with_reset-requires : goal.with_reset-requires
+with_reset-requires c = search rules
+
+pub waiting_of-requires : goal.waiting_of-requires
+unfolding kind
+waiting_of-requires c =
+    let j = c.before.before.before in
+    (j.before.before.before.requires.0, waiting_ranged_lem (recordOf j) (passed j).ranged c.in-4.is, (pair_fits j c.in-4.is).starts)
+
+pub with_pair-requires : goal.with_pair-requires
+unfolding judged_of facts_of kind
+with_pair-requires c =
+    let j = c.before.before.before.before in
+    rw (judged-is j) (omega (arith, (pair_fits j c.in-4.is).room, length-take (state_of j).pending (state_of j).pairs, places j.before.before.before))
+
+pub with_calibration-requires : goal.with_calibration-requires
+with_calibration-requires c = search rules
+
+pub with_annual-requires : goal.with_annual-requires
+with_annual-requires c = search rules
+
+pub bounds-r-1 : goal.bounds-r-1
+bounds-r-1 c = search rules
+
+pub outside-requires : goal.outside-requires
+unfolding kind sets judged_of
+outside-requires c =
+    let m = c.before.before.before in
+    let j = m.before.before in
+    let s = j.before.before.before in
+    let k = m.in-7.is in
+    rw (judged-is j) (s.requires.1.calibration, setting_known (state_of j) (recordOf j) (passed j).placed (rw k tt) s.requires.1.setting, s.requires.0, value_ranged_lem (recordOf j) (passed j).ranged k)
+
+pub with_value-requires : goal.with_value-requires
+with_value-requires c =
+    let j = c.before.before.before.before.before.before in
+    let S = j.before.before.before.requires.1 in
+    rw (judged-is j) (omega (arith, judged_total (state_of j) (recordOf j), S.total), omega (arith, judged_outside (state_of j) (recordOf j), S.outside))
+
+pub emptied-requires : goal.emptied-requires
+emptied-requires c = search rules
+
+pub returns-in-1 : goal.returns-in-1
+unfolding kind with_setting
+returns-in-1 c =
+    let k = c.before.before.before.before.before in
+    let j = k.before.before in
+    rw (judged-is j, c.setting_of.ensures) (applied_setting (state_of j) (recordOf j) k.in-1.is)
+
+pub returns-in-2 : goal.returns-in-2
+unfolding kind mark_limit
+returns-in-2 c =
+    let j = c.before.before.before.before in
+    let k = c.in-2.is in
+    c.with_reading.ensures ∙ ap (λ (s : State). with_reading s (recordOf j)) (judged-is j) ∙ applied_reading (state_of j) (recordOf j) k (rw k at (record-formed j).mark)
+
+pub returns-in-3 : goal.returns-in-3
+unfolding kind mark_limit
+returns-in-3 c =
+    let j = c.before.before.before.before in
+    let k = c.in-3.is in
+    c.with_reset.ensures ∙ ap (λ (s : State). with_reset s (recordOf j)) (judged-is j) ∙ applied_reset (state_of j) (recordOf j) k (rw k at (record-formed j).mark)
+
+pub returns-in-4 : goal.returns-in-4
+unfolding kind
+returns-in-4 c =
+    let j = c.before.before.before.before.before in
+    c.with_pair.ensures ∙ rw (judged-is j, c.waiting_of.ensures) (applied_pair (state_of j) (recordOf j) c.in-4.is)
+
+pub returns-in-5 : goal.returns-in-5
+unfolding kind
+returns-in-5 c =
+    let j = c.before.before.before.before in
+    let k = c.in-5.is in
+    c.with_calibration.ensures ∙ ap (λ (s : State). with_calibration s (recordOf j)) (judged-is j) ∙ applied_calibration (state_of j) (recordOf j) k
+
+pub returns-in-6 : goal.returns-in-6
+unfolding kind
+returns-in-6 c =
+    let j = c.before.before.before.before in
+    let k = c.in-6.is in
+    c.with_annual.ensures ∙ ap (λ (s : State). with_annual s (recordOf j)) (judged-is j) ∙ applied_annual (state_of j) (recordOf j) k
+
+pub returns-in-7 : goal.returns-in-7
+unfolding kind mark judged_of
+returns-in-7 c =
+    let o = c.before.before in
+    let m = o.before.before.before in
+    let j = m.before.before in
+    c.with_value.ensures ∙ rw (o.outside.ensures, judged-is j) (applied_value (state_of j) (recordOf j) m.in-7.is)
+
+pub returns-in-8 : goal.returns-in-8
+unfolding kind
+returns-in-8 c =
+    let j = c.before.before.before.before in
+    c.emptied.ensures ∙ ap emptied (judged-is j) ∙ applied_drop (state_of j) (recordOf j) c.in-8.is
+
+pub returns-in-0 : goal.returns-in-0
+unfolding kind
+returns-in-0 c = let F = record-formed c.before.before.before in let k = c.in-0.is in absurd (omega (arith, F.least))
+
+pub returns-in-9-to-255 : goal.returns-in-9-to-255
+unfolding kind
+returns-in-9-to-255 c =
+    let F = record-formed c.before.before.before in
+    let n = c.in-9-to-255.in-9-to-255-own.rest in
+    absurd (no_kind F.least F.most n.0.0.0.0.0.0.0.0.1 n.0.0.0.0.0.0.0.1 n.0.0.0.0.0.0.1 n.0.0.0.0.0.1 n.0.0.0.0.1 n.0.0.0.1 n.0.0.1 n.0.1)

@@ -1,0 +1,17 @@
+-- `apply::demand_after` meets its contract.
+use mathlib.Core.Path.{sym, ◌∙◌}
+use Rattle.charts.specs.Tests.{if_yes, if_no}
+use borrow.Author.Rules.{rules}
+use Rattle.records.proofs.apply.demand_after.Goals as goal
+
+pub judges-requires : goal.judges-requires
+judges-requires c = search rules
+
+pub raised-requires : goal.raised-requires
+raised-requires c = search rules
+
+pub returns-then-judges : goal.returns-then-judges
+returns-then-judges c = c.raised.ensures ∙ sym (if_yes _ _ _ (sym c.before.before.judges.ensures ∙ c.before.if-judges.true))
+
+pub returns : goal.returns
+returns c = sym (if_no _ _ _ (sym c.before.judges.ensures ∙ c.if-judges.false))

@@ -1,0 +1,16 @@
+-- `apply::with_failure` meets its contract.
+use Rattle.records.specs.StateParts.{with_demand, with_failure}
+use borrow.Author.Rules.{rules}
+use Rattle.records.proofs.apply.with_failure.Goals as goal
+
+pub raised-d-requires : goal.raised-d-requires
+raised-d-requires c = search rules
+
+pub emptied-requires : goal.emptied-requires
+emptied-requires c = search rules
+
+pub returns : goal.returns
+unfolding with_demand with_failure
+returns c =
+    let e = c.before.before.before.before in
+    rw (e.emptied.ensures, e.before.raised-d.ensures)

@@ -1,0 +1,16 @@
+-- `checks::figures` meets its contract. The invariant: the figures of the first i pairs are stored.
+use mathlib.Core.Path.{◌≡◌, refl, sym, ap, ◌∙◌}
+use mathlib.Core.List.{map}
+use Prim.Native.Nat.{◌≤◌, ◌+◌, ◌-◌}
+use native.Mathlib.Omega.{arith}
+use lib.ListN.{length, take, length-set, length-map, get_or-map, set}
+use Rattle.records.specs.Table.{pair_of_waiting}
+use Rattle.records.specs.ListLaws.{store_next, store_end}
+use Rattle.records.proofs.checks.figures.Given as goal
+
+abbrev pub invariant-loop-i : goal.invariant-loop-i
+invariant-loop-i l =
+    (l.i ≤ 30) × (length l.pairs ≡ 30) × (take l.i l.pairs ≡ take l.i (map pair_of_waiting l.waiting))
+
+abbrev pub decreases-loop-i : goal.decreases-loop-i
+decreases-loop-i l = 30 - l.i

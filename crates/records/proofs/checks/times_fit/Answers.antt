@@ -1,0 +1,98 @@
+-- `checks::times_fit` meets its contract.
+use mathlib.Core.Path.{◌≡◌, refl, sym, ap, ◌∙◌}
+use mathlib.Core.Bool.{Bool, ◌&&◌}
+use mathlib.Core.Option.{Option}
+use Prim.Native.Nat.{ℕ, ◌*◌, ◌-◌}
+use native.Mathlib.Omega.{arith}
+use lib.ListN.{take}
+use lib.Dec.{leb}
+use borrow.Author.Tests.{le-leb, lt-leb}
+use borrow.Author.Rules.{rules}
+use Rattle.records.specs.Record.{minute}
+use Rattle.records.specs.Table.{times_fit, follows, last_of}
+use Rattle.records.specs.State.{facts_of}
+use Rattle.records.specs.ListLaws.{last_of_lem, sound_at}
+use Rattle.records.specs.declared.state.Waiting.{Waiting}
+use Rattle.records.proofs.StateLaws.{thirty}
+use Rattle.records.proofs.checks.times_fit.Goals as goal
+use Rattle.records.proofs.checks.times_fit.Lts as lts
+use Rattle.records.proofs.checks.times_fit.Tie as tie
+use Rattle.records.proofs.checks.times_fit.Reads as reads
+
+abbrev At-After-response : Type 0
+At-After-response = lts.After-response tie.the-claims reads.Pre reads.Post
+
+abbrev At-Else-m-l : Type 0
+At-Else-m-l = lts.Else2 tie.the-claims reads.Pre reads.Post
+
+pub read32-m-requires : goal.read32-m-requires
+read32-m-requires c = search rules
+
+pub length_of-l-requires : goal.length_of-l-requires
+length_of-l-requires c = search rules
+
+pub response-requires : goal.response-requires
+response-requires c = search rules
+
+pub overflow_mul-response : goal.overflow_mul-response
+overflow_mul-response c = search rules
+
+-- the definition from the length, the minute and the response minutes that the code has read, and from its first two tests
+whole : (c : At-After-response) {long begun : Bool}
+    → let l = c.before.before in
+    let k = l.length_of-l.result in
+    let m = l.before.read32-m.result in
+    let a = l.before.before.before.args in
+    leb (4 * c.response.result) k ≡ long → leb k m ≡ begun
+    → times_fit (facts_of a.st) a.r.now ≡ (long && (begun && follows (last_of (take a.st.pending a.st.pairs)) (m - k) k))
+unfolding times_fit facts_of minute
+whole c e f =
+    let l = c.before.before in
+    rw (← l.length_of-l.ensures.0, ← l.before.read32-m.ensures, ← c.response.ensures.0, e, f)
+
+pub returns-then-l-response : goal.returns-then-l-response
+returns-then-l-response c = sym (whole c.before.before (lt-leb _ _ c.if-l-response.true) refl)
+
+pub returns-then-m-l : goal.returns-then-m-l
+returns-then-m-l c = sym (whole c.before.before.before (le-leb _ _ c.if-l-response.false) (lt-leb _ _ c.if-m-l.true))
+
+-- past the two tests the pair before decides
+by_last : (c : At-Else-m-l) {o : Option Waiting}
+    → let l = c.before.before.before.before in
+    let k = l.length_of-l.result in
+    let m = l.before.read32-m.result in
+    let a = l.before.before.before.args in
+    last_of (take a.st.pending a.st.pairs) ≡ o → times_fit (facts_of a.st) a.r.now ≡ follows o (m - k) k
+by_last c e = whole c.before.before (le-leb _ _ c.before.if-l-response.false) (le-leb _ _ c.if-m-l.false) ∙ rw e
+
+pub returns-then-n-eq0 : goal.returns-then-n-eq0
+unfolding follows
+returns-then-n-eq0 c =
+    let st = c.args.st in
+    sym (by_last c.before.before (ap (λ (n : ℕ). last_of (take n st.pairs)) c.if-n-eq0.true))
+
+pub overflow_sub-w : goal.overflow_sub-w
+overflow_sub-w c = search rules
+
+pub overflow_cast-w : goal.overflow_cast-w
+overflow_cast-w c = search rules
+
+pub offset_bounds-st-n : goal.offset_bounds-st-n
+offset_bounds-st-n c = search rules
+
+pub bounds-st-n : goal.bounds-st-n
+bounds-st-n c = search rules
+
+pub follows-requires : goal.follows-requires
+follows-requires c =
+    let s = c.before.before.before.before.before.before.before.before.before.before in
+    let st = s.args.st in
+    (sound_at st.pairs st.pending (st.pending - 1) _ (omega arith) (omega (arith, thirty st _ s.well_formed.0)) s.requires.1.pairs).start
+
+pub returns : goal.returns
+unfolding follows
+returns c =
+    let e = c.before.before.before in
+    let s = e.before.before.before.before.before.before.before.before in
+    let st = s.args.st in
+    c.follows.ensures ∙ sym (by_last e.before (last_of_lem st.pairs st.pending _ (omega arith) (omega (arith, thirty st _ s.well_formed.0))))

@@ -1,0 +1,34 @@
+-- `fields::length_of` meets its contract.
+use borrow.Author.Rules.{rules}
+use mathlib.Core.Path.{◌≡◌, ap}
+use native.Mathlib.Omega.{arith}
+use lib.Dec.{lit<}
+use lib.IntN.{nat_abs}
+use mir.Syntax.{w32}
+use mir.Val.{to_z, of_z}
+use Rattle.records.specs.Record.{length_of, field}
+use Rattle.records.specs.RecordLaws.{waiting_fields}
+use Rattle.records.proofs.SignedLaws.{given, unsigned_need}
+use Rattle.records.proofs.fields.length_of.Goals as goal
+use Rattle.records.proofs.fields.length_of.Lts as lts
+use Rattle.records.proofs.fields.length_of.Tie as tie
+use Rattle.records.proofs.fields.length_of.Reads as from
+
+abbrev At-After-field_at : Type 0
+At-After-field_at = lts.After-field_at tie.the-claims from.Pre from.Post
+
+-- the field, as it is cast
+reads : (c : At-After-field_at) → to_z w32 (of_z w32 c.field_at.result) ≡ field c.before.before.args.r.now 8
+reads c = given w32 c.field_at.type_inv c.field_at.ensures
+
+pub field_at-requires : goal.field_at-requires
+field_at-requires c = search rules
+
+pub overflow_cast-result : goal.overflow_cast-result
+overflow_cast-result c = unsigned_need w32 (lit< tt) (reads c.before) (waiting_fields _ c.requires.1).length
+
+pub returns : goal.returns
+unfolding length_of
+returns c =
+    let e = ap nat_abs (reads c.before) in
+    (e, omega (arith, e, (waiting_fields _ c.requires.1).most))

@@ -1,0 +1,23 @@
+-- `fields::requirements_of` meets its contract.
+use borrow.Author.Rules.{rules}
+use mir.Syntax.{w32}
+use Rattle.records.specs.Record.{requirements_of}
+use Rattle.records.proofs.SignedLaws.{given}
+use Rattle.records.proofs.fields.requirements_of.Goals as goal
+
+pub field_at-requires : goal.field_at-requires
+field_at-requires c = search rules
+
+pub field_at-requires-2 : goal.field_at-requires-2
+field_at-requires-2 c = search rules
+
+pub field_at-requires-3 : goal.field_at-requires-3
+field_at-requires-3 c = search rules
+
+pub returns : goal.returns
+unfolding requirements_of
+returns c =
+    let e = given w32 c.field_at.type_inv c.field_at.ensures in
+    let u = given w32 c.field_at-2.type_inv c.field_at-2.ensures in
+    let o = given w32 c.field_at-3.type_inv c.field_at-3.ensures in
+    cc

@@ -1,0 +1,34 @@
+-- `ranges::reading_ranged` meets its contract.
+use borrow.Author.Rules.{rules}
+use lib.IntN.{pos, neg_ℤ}
+use Rattle.records.specs.Record.{reading_ranged}
+use Rattle.records.proofs.SignedLaws.{given_wide, given_between}
+use Rattle.records.proofs.ranges.reading_ranged.Goals as goal
+
+pub field_at-requires : goal.field_at-requires
+field_at-requires c = search rules
+
+pub overflow_cast-field_at : goal.overflow_cast-field_at
+overflow_cast-field_at c = given_wide c.field_at.result c.field_at.type_inv
+
+pub between-requires : goal.between-requires
+between-requires c = search rules
+
+pub field_at-requires-2 : goal.field_at-requires-2
+field_at-requires-2 c = search rules
+
+pub overflow_cast-field_at-2 : goal.overflow_cast-field_at-2
+overflow_cast-field_at-2 c = given_wide c.field_at-2.result c.field_at-2.type_inv
+
+pub between-requires-2 : goal.between-requires-2
+between-requires-2 c = search rules
+
+pub returns : goal.returns
+unfolding reading_ranged
+returns c =
+    let f₂ = c.before.before in
+    let b₁ = f₂.before in
+    let f₁ = b₁.before in
+    let x = given_between (neg_ℤ (pos 400000)) (pos 400000) f₁.field_at.type_inv f₁.field_at.ensures b₁.between.ensures in
+    let y = given_between (pos 0) (pos 400000) f₂.field_at-2.type_inv f₂.field_at-2.ensures c.between-2.ensures in
+    rw (x, y)

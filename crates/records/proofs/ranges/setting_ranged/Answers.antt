@@ -1,0 +1,53 @@
+-- `ranges::setting_ranged` meets its contract.
+use borrow.Author.Rules.{rules}
+use lib.IntN.{pos}
+use Rattle.records.specs.Record.{setting_ranged}
+use Rattle.records.proofs.SignedLaws.{given_wide, given_between}
+use Rattle.records.proofs.ranges.setting_ranged.Goals as goal
+
+pub requirements_of-requires : goal.requirements_of-requires
+requirements_of-requires c = search rules
+
+pub requirements_ranged-requires : goal.requirements_ranged-requires
+requirements_ranged-requires c = search rules
+
+pub field_at-requires : goal.field_at-requires
+field_at-requires c = search rules
+
+pub overflow_cast-field_at : goal.overflow_cast-field_at
+overflow_cast-field_at c = given_wide c.field_at.result c.field_at.type_inv
+
+pub between-requires : goal.between-requires
+between-requires c = search rules
+
+pub field_at-requires-2 : goal.field_at-requires-2
+field_at-requires-2 c = search rules
+
+pub overflow_cast-field_at-2 : goal.overflow_cast-field_at-2
+overflow_cast-field_at-2 c = given_wide c.field_at-2.result c.field_at-2.type_inv
+
+pub between-requires-2 : goal.between-requires-2
+between-requires-2 c = search rules
+
+pub field_at-requires-3 : goal.field_at-requires-3
+field_at-requires-3 c = search rules
+
+pub overflow_cast-field_at-3 : goal.overflow_cast-field_at-3
+overflow_cast-field_at-3 c = given_wide c.field_at-3.result c.field_at-3.type_inv
+
+pub between-requires-3 : goal.between-requires-3
+between-requires-3 c = search rules
+
+pub returns : goal.returns
+unfolding setting_ranged
+returns c =
+    let f₃ = c.before.before in
+    let b₂ = f₃.before in
+    let f₂ = b₂.before in
+    let b₁ = f₂.before in
+    let f₁ = b₁.before in
+    let q = f₁.before in
+    let z = given_between (pos 1) (pos 10000) f₁.field_at.type_inv f₁.field_at.ensures b₁.between.ensures in
+    let s = given_between (pos 1) (pos 10000) f₂.field_at-2.type_inv f₂.field_at-2.ensures b₂.between-2.ensures in
+    let m = given_between (pos 0) (pos 60) f₃.field_at-3.type_inv f₃.field_at-3.ensures c.between-3.ensures in
+    rw (q.requirements_ranged.ensures, q.before.requirements_of.ensures, z, s, m)

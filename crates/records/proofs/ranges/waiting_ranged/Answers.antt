@@ -1,0 +1,42 @@
+-- `ranges::waiting_ranged` meets its contract.
+use borrow.Author.Rules.{rules}
+use lib.IntN.{pos}
+use Rattle.records.specs.Record.{waiting_ranged}
+use Rattle.records.proofs.SignedLaws.{given_wide, given_between}
+use Rattle.records.proofs.ranges.waiting_ranged.Goals as goal
+
+pub field_at-requires : goal.field_at-requires
+field_at-requires c = search rules
+
+pub overflow_cast-field_at : goal.overflow_cast-field_at
+overflow_cast-field_at c = given_wide c.field_at.result c.field_at.type_inv
+
+pub between-requires : goal.between-requires
+between-requires c = search rules
+
+pub field_at-requires-2 : goal.field_at-requires-2
+field_at-requires-2 c = search rules
+
+pub overflow_cast-field_at-2 : goal.overflow_cast-field_at-2
+overflow_cast-field_at-2 c = given_wide c.field_at-2.result c.field_at-2.type_inv
+
+pub between-requires-2 : goal.between-requires-2
+between-requires-2 c = search rules
+
+pub pair_of-requires : goal.pair_of-requires
+pair_of-requires c = search rules
+
+pub pair_ranged-requires : goal.pair_ranged-requires
+pair_ranged-requires c = search rules
+
+pub returns : goal.returns
+unfolding waiting_ranged
+returns c =
+    let p = c.before.before in
+    let b₂ = p.before in
+    let f₂ = b₂.before in
+    let b₁ = f₂.before in
+    let f₁ = b₁.before in
+    let l = given_between (pos 30) (pos 1440) f₁.field_at.type_inv f₁.field_at.ensures b₁.between.ensures in
+    let v = given_between (pos 0) (pos 100) f₂.field_at-2.type_inv f₂.field_at-2.ensures b₂.between-2.ensures in
+    rw (l, v, c.pair_ranged.ensures, p.pair_of.ensures)
