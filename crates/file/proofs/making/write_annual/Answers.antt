@@ -1,0 +1,29 @@
+-- `making::write_annual` meets its contract.
+use Rattle.file.specs.ClosingLaws.{annual_written}
+use borrow.Author.Rules.{rules}
+use Rattle.file.proofs.making.write_annual.Goals as goal
+
+pub test_mark-requires : goal.test_mark-requires
+test_mark-requires c = search rules
+
+pub write_head-requires : goal.write_head-requires
+write_head-requires c = search rules
+
+pub write32-requires : goal.write32-requires
+write32-requires c = search rules
+
+pub clear-requires : goal.clear-requires
+clear-requires c = search rules
+
+pub returns : goal.returns
+returns c =
+    let w3 = c.before.before.before in
+    let w2 = w3.before.before.before.before in
+    let w1 = w2.before.before.before.before in
+    let m = w1.before in
+    let s = m.before.before.before in
+    let a = s.args in
+    annual_written a.target.now _ _ _ a.t m.test_mark.result a.count a.minute s.requires m.test_mark.ensures
+    w1.write_head.ensures
+    w2.write32.ensures
+    w3.clear.ensures

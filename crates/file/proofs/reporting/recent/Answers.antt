@@ -1,0 +1,19 @@
+-- `reporting::recent` meets its contract.
+use borrow.Author.Rules.{rules}
+use mathlib.Core.Path.{sym, ap, ◌∙◌}
+use Prim.Native.Nat.{ℕ}
+use lib.Dec.{leb}
+use Rattle.records.specs.Answers.{recent_of}
+use Rattle.records.specs.declared.state.Demand.{Demand}
+use Rattle.file.proofs.reporting.recent.Goals as goal
+
+pub age-requires : goal.age-requires
+age-requires c = search rules
+
+pub returns-in-Quiet : goal.returns-in-Quiet
+returns-in-Quiet c = search rules
+
+pub returns-in-Since : goal.returns-in-Since
+returns-in-Since c =
+    let a = c.args in
+    ap (λ (n : ℕ). leb n a.limit) c.age.ensures ∙ sym (ap (λ (x : Demand). recent_of a.limit a.m x) c.in-Since.is)
