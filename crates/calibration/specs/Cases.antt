@@ -3,8 +3,8 @@ use Rattle.std.specs.Prelude.{◌≡◌, refl, Bool, true, false, List, ◌∷�
 use Rattle.std.proofs.Common.{ap, arith}
 use Rattle.charts.specs.Integers.{diff, le_ud, ud_lt}
 use Rattle.charts.specs.Rounding.{odd, rounds_up, near_of}
-use Rattle.charts.specs.RoundingLaws.{near_whole}
-use Rattle.charts.specs.ChartCases.{ChartCases, chart_cases}
+use Rattle.charts.proofs.RoundingLaws.{near_whole}
+use Rattle.charts.proofs.ChartCases.{ChartCases, chart_cases}
 use Rattle.calibration.specs.Pairs.{OxygenRanged}
 use Rattle.calibration.specs.Conditions.{standard_of}
 use Rattle.calibration.specs.Calibration.{total, q_of, k_of, varied_of}

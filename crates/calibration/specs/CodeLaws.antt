@@ -6,7 +6,7 @@ use borrow.Author.Tests.{lt-leb}
 use Rattle.std.proofs.Math.IntN.{pos}
 use Rattle.charts.specs.Tests.{if◌then◌else◌, if_yes, if_no, same_answer, answers_as, answers_le}
 use Rattle.charts.specs.Rounding.{near_of}
-use Rattle.charts.specs.RoundingLaws.{even_multiple, near_bound, near_nonneg, near_shift}
+use Rattle.charts.proofs.RoundingLaws.{even_multiple, near_bound, near_nonneg, near_shift}
 use Rattle.charts.specs.Division.{Divided}
 use Rattle.charts.specs.Integers.{sum, diff, prod, one_zero, abs_ud, abs_prod, eq_ud, ud_eq, ud_le, le_ud, lt_ud, le_le_z, *ℤ-assoc, *ℤ-distrib}
 use Rattle.calibration.specs.Pairs.{Between, between_of, between_answers}

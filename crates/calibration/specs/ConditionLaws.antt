@@ -4,7 +4,7 @@ use Rattle.std.proofs.Common.{ap, arith, mul-le-mul, mul-le-mul_left, SFits}
 use Rattle.std.specs.Int.Signed.{≤ℤ_refl}
 use Rattle.std.specs.Int.{w32}
 use Rattle.charts.specs.Tests.{Answers, answers_le, answers_lt, answers_and, answers_as}
-use Rattle.charts.specs.RoundingLaws.{near_bound}
+use Rattle.charts.proofs.RoundingLaws.{near_bound}
 use Rattle.charts.specs.Integers.{ints, diff, le_ud, ud_le, ud_lt, +ℤ-mono, abs_sum, abs_prod, abs_sfits}
 use Rattle.calibration.specs.Pairs.{Between, between_answers, ConditionsRanged, OxygenRanged, PairRanged}
 use Rattle.calibration.specs.PairLaws.{between_abs, between_size}

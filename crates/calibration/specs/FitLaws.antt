@@ -3,7 +3,7 @@ use Rattle.std.specs.Prelude.{◌≡◌, Bool, ℕ, ◌+◌, ◌*◌, ◌≤◌,
 use Rattle.std.proofs.Common.{ap, ◌∙◌, arith, mul-le-mul, mul-le-mul_left}
 use Rattle.std.proofs.Math.Bool.{true, false}
 use Rattle.charts.specs.Integers.{sum, diff, one_zero, abs_ud, up_neg, dn_neg, le_ud, ud_le, ud_lt, abs_diff, abs_prod}
-use Rattle.charts.specs.RoundingLaws.{near_bound}
+use Rattle.charts.proofs.RoundingLaws.{near_bound}
 use Rattle.calibration.specs.Pairs.{Between, PairRanged, ZRanged}
 use Rattle.calibration.specs.PairLaws.{between_abs, between_size, between_above, between_pos}
 use Rattle.calibration.specs.Calibration.{plus_of, rise_of, divisor_of, intercept_of, LineRanged}

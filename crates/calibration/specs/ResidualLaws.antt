@@ -7,7 +7,7 @@ use Rattle.std.proofs.lemmas.Bool.{not-false}
 use Rattle.std.proofs.Math.IntN.{+ℤ_assoc, +ℤ_idl, +ℤ_idr}
 use Rattle.charts.specs.Tests.{if◌then◌else◌, if_all}
 use Rattle.charts.specs.Integers.{ints, abs_sum, abs_diff}
-use Rattle.charts.specs.RoundingLaws.{near_bound}
+use Rattle.charts.proofs.RoundingLaws.{near_bound}
 use Rattle.calibration.specs.Pairs.{Between, between_of, between_answers}
 use Rattle.calibration.specs.PairLaws.{between_abs}
 use Rattle.calibration.specs.Calibration.{measured_of, c_of, far_of, beyond_of, some_beyond, higher_of, share_of, top_of, span_from, span_of, total, squares, deviations_of, residuals_of}

@@ -3,7 +3,7 @@
 use Rattle.std.specs.Prelude.{◌≡◌, ℕ, ◌+◌, ◌*◌, ◌≤◌, ◌<◌, ℤ, pos, nat_abs, ◌+ℤ◌, ◌-ℤ◌, ◌*ℤ◌, ◌<ℤ◌}
 use Rattle.std.proofs.Common.{sym, ap, ◌∙◌, arith, mul-le-mul_left, mul-le-mul_right, mul_comm, mul_assoc, add-mul}
 use Rattle.std.proofs.Math.IntN.{*ℤ_comm}
-use Rattle.charts.specs.RoundingLaws.{near_half_bound}
+use Rattle.charts.proofs.RoundingLaws.{near_half_bound}
 use Rattle.charts.specs.Integers.{up, dn, sum, diff, prod, ud_eq, ud_lt, le_ud, abs_sum, abs_prod, abs_ud, one_zero, *ℤ-assoc}
 use Rattle.calibration.specs.Pairs.{ConditionsRanged, OxygenRanged}
 use Rattle.calibration.specs.Conditions.{times_of, standard_of}

@@ -3,14 +3,10 @@ pub mod SignedLocals
 pub mod Tests
 pub mod Rounding
 pub mod Division
-pub mod RoundingLaws
-pub mod RoundingCases
 pub mod Sums
 pub mod Charts
 pub mod Runs
 pub mod RunLaws
-pub mod ChartLaws
-pub mod ChartCases
 pub mod Soundness
 pub mod SoundnessLaws
 pub mod CodeLaws

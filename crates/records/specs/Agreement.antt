@@ -4,7 +4,7 @@ use Rattle.std.specs.Prelude.{◌≡◌, Bool, true, false, List, [], ◌∷◌,
 use Rattle.std.proofs.Math.Option.{Option, none, some}
 use Rattle.charts.specs.Tests.{if◌then◌else◌}
 use Rattle.charts.specs.Charts.{blank, reset_of}
-use Rattle.charts.specs.ChartLaws.{Reading, after_readings}
+use Rattle.charts.proofs.ChartLaws.{Reading, after_readings}
 use Rattle.charts.specs.declared.Chart.{Chart}
 use Rattle.records.specs.Lists.{since, those}
 use Rattle.records.specs.Record.{Record, difference_of}

@@ -13,7 +13,7 @@ use mir.Val.{to_z}
 use Rattle.charts.specs.Integers.{abs_ud, one_zero, eq_ud, le_ud, lt_ud, ud_le, ud_eq, abs_sum, abs_prod, abs_sfits}
 use Rattle.charts.specs.SignedLocals.{Loc, arg, lit, add, add_need, mul, mul_need, cast, cast_need, cast_u_need, cast_u}
 use Rattle.charts.specs.Rounding.{near_of}
-use Rattle.charts.specs.RoundingLaws.{division_parts}
+use Rattle.charts.proofs.RoundingLaws.{division_parts}
 use Rattle.charts.specs.Division.{Divided}
 use Rattle.calibration.specs.Pairs.{Between, between_of, between_answers}
 use Rattle.calibration.specs.PairLaws.{between_abs, between_fits}

@@ -10,7 +10,7 @@ use mir.Syntax.{Width, w64}
 use mir.Val.{SFits, to_z}
 use Rattle.charts.specs.Integers.{abs_sum, abs_diff, abs_sfits}
 use Rattle.charts.specs.SignedLocals.{Loc, arg, lit, on, cast_u, add, add_need, sub, sub_need, div_need, quot, rem}
-use Rattle.charts.specs.RoundingLaws.{abs_quot, abs_rem, quot_once, divided_raised, division_unique}
+use Rattle.charts.proofs.RoundingLaws.{abs_quot, abs_rem, quot_once, divided_raised, division_unique}
 use Rattle.charts.proofs.divide.Goals as goal
 use Rattle.charts.proofs.divide.Goals.{Start}
 

@@ -12,7 +12,7 @@ use mir.Val.{to_z, of_z}
 use Rattle.charts.specs.Integers.{abs_ud, one_zero, ud_le, le_ud, lt_ud, abs_sfits}
 use Rattle.charts.specs.SignedLocals.{Loc, arg, lit, on, add, add_need, rem, div_need, cast_u, cast_u_need}
 use Rattle.charts.specs.Rounding.{odd, rounds_up, near_of}
-use Rattle.charts.specs.RoundingLaws.{abs_rem, odd_signed, near_up, near_down, near_bound, division_parts}
+use Rattle.charts.proofs.RoundingLaws.{abs_rem, odd_signed, near_up, near_down, near_bound, division_parts}
 use Rattle.charts.specs.Division.{Divided}
 use Rattle.charts.proofs.near.Goals as goal
 use Rattle.charts.proofs.near.Lts as lts

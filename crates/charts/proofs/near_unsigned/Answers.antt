@@ -9,7 +9,7 @@ use lib.IntN.{pos}
 use lib.Signed.{◌<ℤ◌}
 use Rattle.charts.specs.Integers.{ud_lt}
 use Rattle.charts.specs.Rounding.{odd, rounds_up}
-use Rattle.charts.specs.RoundingLaws.{divided_unsigned, odd_unsigned, up_over, near_up, near_down}
+use Rattle.charts.proofs.RoundingLaws.{divided_unsigned, odd_unsigned, up_over, near_up, near_down}
 use Rattle.charts.proofs.near_unsigned.Goals as goal
 use Rattle.charts.proofs.near_unsigned.Lts as lts
 use Rattle.charts.proofs.near_unsigned.Tie as tie

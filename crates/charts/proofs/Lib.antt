@@ -1,0 +1,4 @@
+pub mod RoundingLaws
+pub mod RoundingCases
+pub mod ChartLaws
+pub mod ChartCases
