@@ -2,7 +2,8 @@
 use Rattle.std.specs.Prelude.{◌≡◌, refl, Bool, true, false, ◌&&◌, List, [], ◌∷◌, map, ℕ, suc, ◌+◌, ◌*◌, ℤ, pos, neg_ℤ, ◌-ℤ◌, ◌*ℤ◌, length}
 use Rattle.std.proofs.Common.{sym, ap, ◌∙◌, add-one, arith}
 use Rattle.charts.specs.Integers.{prod, up_neg, dn_neg, ud_eq}
-use Rattle.charts.specs.Tests.{Answers}
+use Rattle.charts.specs.Tests.{Answers, answers_as}
+use Rattle.charts.proofs.StandingLaws.{stands_from, run_length, run_some, run_there, run_above}
 use Rattle.charts.specs.Sums.{empty, added}
 use Rattle.charts.specs.Charts.{rising_term, falling_term, precision_term, drift_limit, precision_limit, over, alarms_of, adjustment_of, blank, reset_of, applied_of}
 use Rattle.charts.specs.Runs.{Alarm, rising, falling, precision, RunOver, newest, drift_term, terms, limit_of, Stands}
@@ -89,7 +90,11 @@ none_stands limit = record { sure = λ t. absurd t; back = λ r. let k = r.some 
 -- THE ALARM THEOREM: an alarm stands exactly if some run of its terms sums over its limit
 pub alarm_answers : (a : Alarm) (s : ℕ) (ds : List ℤ) (c : Chart) → Charted s ds c → Answers (alarm_of a (alarms_of c s)) (Stands a s ds)
 unfolding Stands
-alarm_answers a s ds c C = rw (shown a s c C.started) (over_answers (limit_of a s) (sum_of a c) (terms a s ds) (chart_shows a s ds c C))
+alarm_answers a s ds c C =
+    rw (shown a s c C.started)
+    (answers_as (over_answers (limit_of a s) (sum_of a c) (terms a s ds) (chart_shows a s ds c C))
+    (λ r. stands_from a s ds r.n r.some r.there r.above)
+    (λ r. record { n = run_length a s ds r; some = run_some a s ds r; there = run_there a s ds r; above = run_above a s ds r }))
 
 -- for a chart that was reset, and then given readings
 pub alarms_after : (a : Alarm) (s : ℕ) (c : Chart) (rs : List Reading) → Answers (alarm_of a (alarms_of (after_readings s (reset_of c) rs) s)) (Stands a s (differences rs))

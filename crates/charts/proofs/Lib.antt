@@ -1,4 +1,5 @@
 pub mod RoundingLaws
 pub mod RoundingCases
+pub mod StandingLaws
 pub mod ChartLaws
 pub mod ChartCases
