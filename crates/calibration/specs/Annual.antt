@@ -1,5 +1,5 @@
 -- Paper 01, 'Annual test (8.4, 8.5)', and paper 02, C-12. The definitions are those of the calibration, with the function in force.
-use Rattle.std.specs.Prelude.{Bool, true, false, not, ◌&&◌, ◌||◌, List, ℕ, ◌-◌, ◌*◌, leb, eqb, ℤ, pos, nat_abs, ◌-ℤ◌, ◌*ℤ◌, length}
+use Rattle.std.specs.Prelude.{Bool, false, not, ◌&&◌, ◌||◌, List, ℕ, ◌-◌, ◌*◌, leb, eqb, ℤ, pos, nat_abs, ◌-ℤ◌, ◌*ℤ◌, length}
 use Rattle.std.specs.Int.Signed.{le_z}
 use Rattle.charts.specs.Tests.{if◌then◌else◌}
 use Rattle.calibration.specs.Calibration.{some_beyond, deviations_of, total, q_of}

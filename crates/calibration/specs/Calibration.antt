@@ -1,6 +1,6 @@
 -- Paper 01, 'Calibration (6.4, 6.5)', from the sums over the pairs to the verdict, and paper 02, C-12. Every formula is over ℤ, as printed; whatever rounds
 -- has the edition as its first argument.
-use Rattle.std.specs.Prelude.{Bool, true, false, not, ◌&&◌, ◌||◌, List, [], ◌∷◌, map, ℕ, ◌+◌, ◌-◌, ◌*◌, leb, eqb, ℤ, pos, negsuc, neg_ℤ, nat_abs, ◌+ℤ◌, ◌-ℤ◌, ◌*ℤ◌, length}
+use Rattle.std.specs.Prelude.{Bool, true, false, not, ◌&&◌, ◌||◌, List, [], ◌∷◌, map, ℕ, ◌+◌, ◌-◌, ◌*◌, leb, eqb, ℤ, pos, neg_ℤ, ◌+ℤ◌, ◌-ℤ◌, ◌*ℤ◌, length}
 use Rattle.std.specs.Int.Signed.{le_z, lt_z}
 use Rattle.charts.specs.Tests.{if◌then◌else◌}
 use Rattle.charts.specs.Rounding.{near_of}

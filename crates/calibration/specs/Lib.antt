@@ -4,16 +4,8 @@ pub mod Calibration
 pub mod Annual
 pub mod LentList
 pub mod PairLaws
-pub mod ConditionLaws
-pub mod StandardBound
 pub mod CodeLaws
 pub mod ListLaws
-pub mod FitLaws
-pub mod SumLaws
 pub mod SpanLaws
-pub mod ResidualLaws
 pub mod DispersionLaws
-pub mod VerdictLaws
 pub mod LentListLaws
-pub mod Cases
-pub mod FitRange

@@ -1,5 +1,5 @@
 -- Paper 01, 'Records', kinds 1, 4, 5 and 7: the ranges of the figures that a calibration works with, as questions and, where the code asks them, as tests.
-use Rattle.std.specs.Prelude.{Bool, ◌&&◌, List, [], ◌∷◌, ℕ, ℤ, pos, neg_ℤ, ◌≤ℤ◌}
+use Rattle.std.specs.Prelude.{Bool, ◌&&◌, List, [], ◌∷◌, ℤ, pos, neg_ℤ, ◌≤ℤ◌}
 use Rattle.std.specs.Int.Signed.{le_z}
 use Rattle.charts.specs.Tests.{Answers, answers_le_z, answers_and, answers_as}
 use Rattle.calibration.specs.declared.Conditions.{Conditions}

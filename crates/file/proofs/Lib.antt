@@ -4,3 +4,12 @@ pub mod CheckTen
 pub mod CheckLoop
 pub mod TakeLaws
 pub mod UnsignedLaws
+pub mod TakingLaws
+pub mod CallsLaws
+pub mod StatementLaws
+pub mod RunLaws
+pub mod FormingLaws
+pub mod EditionLaws
+pub mod RoundTrip
+pub mod ClosingLaws
+pub mod ClosingAccepted

@@ -8,15 +8,6 @@ pub mod BlockRoundTrip
 pub mod Taking
 pub mod Calls
 pub mod FitLaws
-pub mod CallsLaws
 pub mod Statement
-pub mod StatementLaws
-pub mod EditionLaws
-pub mod RunLaws
-pub mod RoundTrip
 pub mod Answered
 pub mod Closings
-pub mod TakingLaws
-pub mod FormingLaws
-pub mod ClosingLaws
-pub mod ClosingAccepted

@@ -4,3 +4,9 @@ pub mod ApplyLaws
 pub mod InPlaceLaws
 pub mod PairLoops
 pub mod StateLaws
+pub mod AgreementLaws
+pub mod StepsLaws
+pub mod TableLaws
+pub mod SoundnessLaws
+pub mod AnswersLaws
+pub mod LentListLaws

@@ -1,13 +1,13 @@
 -- The state is the summary of the history: what it means that they agree. Each field is an equation, but for the analyser and the block
 -- number, which the history does not have, and the edition, since a block may be open with no record yet (paper 02, C-12).
-use Rattle.std.specs.Prelude.{◌≡◌, Bool, true, false, List, [], ◌∷◌, ◌++◌, map, ℕ, ◌-◌, length, replicate}
+use Rattle.std.specs.Prelude.{◌≡◌, List, [], ◌∷◌, ◌++◌, map, ℕ, ◌-◌, length, replicate}
 use Rattle.std.proofs.Math.Option.{Option, none, some}
 use Rattle.charts.specs.Tests.{if◌then◌else◌}
 use Rattle.charts.specs.Charts.{blank, reset_of}
 use Rattle.charts.proofs.ChartLaws.{Reading, after_readings}
 use Rattle.charts.specs.declared.Chart.{Chart}
 use Rattle.records.specs.Lists.{since, those}
-use Rattle.records.specs.Record.{Record, difference_of}
+use Rattle.records.specs.Record.{difference_of}
 use Rattle.records.specs.Kinds.{Point, at_zero, at_span, reads, resets, deviation_of}
 use Rattle.records.specs.History.{Entry, History, on, begun_in, last_minute, setting_in, started_in, pending_in, function_in, last_week, total_in, outside_in, weeks_over, first_call, refusal_of}
 use Rattle.records.specs.State.{no_pair}

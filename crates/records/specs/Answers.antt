@@ -2,7 +2,6 @@
 use Rattle.std.specs.Prelude.{Bool, true, false, not, ◌&&◌, ℕ, ◌-◌, leb}
 use Rattle.charts.specs.Charts.{alarms_of}
 use Rattle.charts.specs.declared.Alarms.{Alarms}
-use Rattle.records.specs.declared.state.Function.{Function}
 use Rattle.records.specs.declared.state.Calibration.{Calibration}
 use Rattle.records.specs.declared.state.Calibration.TheVariants.{Absent, InForce}
 use Rattle.records.specs.declared.state.Demand.{Demand}

@@ -1,7 +1,7 @@
 -- What the accepted records say, and nothing else: paper 01, 'Charts', 'Calibration', 'Weeks and calls (6.4.4)' and 'Usable', paper 02, C-11 to C-13,
 -- and the mission's statement 3.
 -- A history is the list of accepted records, each with the edition of its block, newest first, so that "since the last" is plain recursion.
-use Rattle.std.specs.Prelude.{◌≡◌, Bool, true, false, not, ◌&&◌, ◌||◌, List, [], ◌∷◌, ◌++◌, map, ℕ, zero, suc, ◌+◌, ◌-◌, ◌*◌, ◌/◌, ◌≤◌, leb, ltb, eqb, ℤ, pos, ◌-ℤ◌, length}
+use Rattle.std.specs.Prelude.{◌≡◌, Bool, true, false, ◌&&◌, ◌||◌, List, [], ◌∷◌, ◌++◌, map, ℕ, zero, suc, ◌-◌, ◌≤◌, ltb, eqb, ℤ, length}
 use Rattle.std.proofs.Math.Option.{Option, none, some, get_or}
 use Rattle.charts.specs.Tests.{if◌then◌else◌}
 use Rattle.charts.specs.Runs.{Alarm, Stands}
@@ -11,7 +11,6 @@ use Rattle.records.specs.Kinds.{Point, no_setting, at_zero, at_span, reads, rese
 use Rattle.records.specs.Table.{Facts, refusal_in}
 use Rattle.records.specs.declared.state.Setting.{Setting}
 use Rattle.records.specs.declared.state.Waiting.{Waiting}
-use Rattle.records.specs.declared.state.Function.{Function}
 use Rattle.records.specs.declared.state.Calibration.{Calibration}
 use Rattle.records.specs.declared.state.Calibration.TheVariants.{Absent, InForce}
 

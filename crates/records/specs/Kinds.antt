@@ -1,5 +1,5 @@
 -- Paper 01, 'Records', 'Weeks and calls (6.4.4)', and paper 02, C-11 and C-12: which records do what, and when a value is outside.
-use Rattle.std.specs.Prelude.{Bool, true, false, not, ◌&&◌, ◌||◌, ℕ, ◌*◌, ◌/◌, eqb, ltb, ℤ, pos}
+use Rattle.std.specs.Prelude.{Bool, false, not, ◌&&◌, ◌||◌, ℕ, ◌*◌, ◌/◌, eqb, ltb, pos}
 use Rattle.std.specs.Int.Signed.{lt_z}
 use Rattle.charts.specs.Tests.{if◌then◌else◌}
 use Rattle.calibration.specs.Calibration.{value_of}

@@ -5,7 +5,6 @@ pub mod RecordLaws
 pub mod Kinds
 pub mod Lists
 pub mod Table
-pub mod TableLaws
 pub mod History
 pub mod State
 pub mod StateParts
@@ -14,11 +13,6 @@ pub mod InPlace
 pub mod ListLaws
 pub mod WeekLaws
 pub mod Agreement
-pub mod AgreementLaws
 pub mod Answers
-pub mod AnswersLaws
 pub mod EditionLaws
-pub mod SoundnessLaws
-pub mod LentListLaws
 pub mod Steps
-pub mod StepsLaws

@@ -1,5 +1,5 @@
 -- Parts of a list that has the newest first, and what one element more does to them.
-use Rattle.std.specs.Prelude.{◌≡◌, refl, Bool, true, false, List, [], ◌∷◌, ℕ, suc}
+use Rattle.std.specs.Prelude.{◌≡◌, refl, Bool, true, false, List, [], ◌∷◌}
 use Rattle.charts.specs.Tests.{if◌then◌else◌}
 
 module _ {A : Type 0} where

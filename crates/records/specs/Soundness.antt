@@ -1,11 +1,11 @@
 -- The range in which a state's arithmetic fits its fields: the code's own, with no sentence of paper 01. Every state that calls leave is in it,
 -- and others may be. The edition may be any number, since none overflows anything (paper 02, C-12). `most` bounds what is counted record by record: a state that has taken n blocks is sound for 12·n.
-use Rattle.std.specs.Prelude.{◌≡◌, Bool, true, false, not, ◌&&◌, ◌||◌, List, [], ◌∷◌, map, ℕ, ◌≤◌, leb, ℤ, take}
+use Rattle.std.specs.Prelude.{Bool, true, false, ◌&&◌, List, [], ◌∷◌, ℕ, ◌≤◌, leb, take}
 use Rattle.charts.specs.Tests.{Answers, answers_le, answers_and, answers_as}
 use Rattle.charts.specs.Soundness as C
 use Rattle.calibration.specs.Pairs.{PairRanged, pair_ranged_of, pair_answers, RequirementsRanged, requirements_ranged_of, requirements_answers}
 use Rattle.calibration.specs.Calibration.{LineRanged, line_ranged_of}
-use Rattle.calibration.specs.ConditionLaws.{line_answers}
+use Rattle.calibration.proofs.ConditionLaws.{line_answers}
 use Rattle.records.specs.Kinds.{line_of}
 use Rattle.records.specs.declared.state.Setting.{Setting}
 use Rattle.records.specs.declared.state.Waiting.{Waiting}

@@ -1,6 +1,6 @@
 -- The state (paper 01: the standing): its beginning, its refusal of a record, and what an accepted record makes of it. Its edition (paper 02, C-12) is
 -- that of the block in which the next record stands, and between blocks that of the last one: 0 before the first, which rounds as 1 does.
-use Rattle.std.specs.Prelude.{Bool, true, false, not, ◌&&◌, ◌||◌, List, [], ◌∷◌, ℕ, ◌+◌, ◌*◌, eqb, ltb, ℤ, pos, take, set, replicate}
+use Rattle.std.specs.Prelude.{Bool, true, false, ◌&&◌, ◌||◌, List, ℕ, ◌+◌, eqb, ltb, pos, take, set, replicate}
 use Rattle.charts.specs.Tests.{if◌then◌else◌}
 use Rattle.charts.specs.Charts.{blank, reset_of, applied_of}
 use Rattle.charts.specs.declared.Chart.{Chart}
@@ -9,7 +9,6 @@ use Rattle.records.specs.Kinds.{Point, no_setting, at_zero, at_span, reads, rese
 use Rattle.records.specs.Table.{Facts, refusal_in}
 use Rattle.records.specs.declared.state.Setting.{Setting}
 use Rattle.records.specs.declared.state.Waiting.{Waiting}
-use Rattle.records.specs.declared.state.Calibration.{Calibration}
 use Rattle.records.specs.declared.state.Calibration.TheVariants.{Absent, InForce}
 use Rattle.records.specs.declared.state.Demand.{Demand}
 use Rattle.records.specs.declared.state.Demand.TheVariants.{Quiet, Since}

@@ -14,7 +14,6 @@ use Rattle.records.specs.Record.{Record, kind, mark, minute, field, long_field, 
 use Rattle.records.specs.Kinds.{sets, day_of, response_of, line_of}
 use Rattle.records.specs.declared.state.Setting.{Setting}
 use Rattle.records.specs.declared.state.Waiting.{Waiting}
-use Rattle.records.specs.declared.state.Function.{Function}
 use Rattle.records.specs.declared.state.Calibration.{Calibration}
 use Rattle.records.specs.declared.state.Calibration.TheVariants.{Absent, InForce}
 

@@ -3,7 +3,6 @@ use borrow.Author.Rules.{rules}
 use mathlib.Core.Path.{◌≡◌, sym, ap, ◌∙◌}
 use mathlib.Core.Bool.{true, false}
 use mathlib.Core.List.{List}
-use borrow.Author.Tests.{not-true, not-false}
 use Prim.Native.Nat.{ℕ, ◌-◌, ◌*◌, ◌≤◌}
 use native.Mathlib.Omega.{arith}
 use native.Mathlib.Nat.{mul-le-mul}
@@ -17,7 +16,7 @@ use Rattle.calibration.specs.PairLaws.{oxygen_reads, sigma_need, sigma_reads, si
 use Rattle.calibration.specs.Calibration.{some_beyond, deviations_of, q_of, residuals_of}
 use Rattle.calibration.specs.Annual.{annual_count_fits, function_of}
 use Rattle.calibration.specs.ListLaws.{count_is}
-use Rattle.calibration.specs.VerdictLaws.{Dispersed, dispersed, annual_count, test_unfit, test_beyond, test_stands}
+use Rattle.calibration.proofs.VerdictLaws.{Dispersed, dispersed, annual_count, test_unfit, test_beyond, test_stands}
 use Rattle.calibration.specs.declared.Pair.{Pair}
 use Rattle.calibration.specs.declared.Residuals.{Residuals}
 use Rattle.calibration.proofs.annual_test.Goals as goal

@@ -7,7 +7,7 @@ use Rattle.charts.specs.Integers.{ints, abs_sfits}
 use Rattle.charts.specs.SignedLocals.{Loc, arg, mul, mul_need, add, add_need, cast, cast_need}
 use Rattle.calibration.specs.Calibration.{calibrated_of}
 use Rattle.calibration.specs.PairLaws.{between_fits, wide, wide_need}
-use Rattle.calibration.specs.ConditionLaws.{bx_bound, line_bound, calibrated_bound}
+use Rattle.calibration.proofs.ConditionLaws.{bx_bound, line_bound, calibrated_bound}
 use Rattle.calibration.proofs.calibrated.Goals as goal
 use Rattle.calibration.proofs.calibrated.Lts as lts
 use Rattle.calibration.proofs.calibrated.Tie as tie

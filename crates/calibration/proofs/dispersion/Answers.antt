@@ -8,7 +8,7 @@ use lib.Signed.{yes_non_neg, pos-nat_abs}
 use mir.Syntax.{w64}
 use Rattle.charts.specs.Integers.{abs_diff, abs_sfits}
 use Rattle.charts.specs.SignedLocals.{Loc, arg, lit, sub, sub_need, mul, mul_need, cast_u_need, cast_u}
-use Rattle.calibration.specs.FitLaws.{product_size}
+use Rattle.calibration.proofs.FitLaws.{product_size}
 use Rattle.calibration.proofs.dispersion.Goals as goal
 use Rattle.calibration.proofs.dispersion.Goals.{After-struct_told-2-1, Start}
 

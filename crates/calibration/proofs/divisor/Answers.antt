@@ -10,7 +10,7 @@ use Rattle.charts.specs.Integers.{abs_sfits, abs_diff}
 use Rattle.charts.specs.SignedLocals.{Loc, arg, lit, sub, sub_need, mul, mul_need}
 use Rattle.calibration.specs.PairLaws.{between_abs, between_fits, wide, wide_need}
 use Rattle.calibration.specs.Calibration.{divisor_of}
-use Rattle.calibration.specs.FitLaws.{n_ranged, x_ranged, xx_ranged, product_between, product_size, apart}
+use Rattle.calibration.proofs.FitLaws.{n_ranged, x_ranged, xx_ranged, product_between, product_size, apart}
 use Rattle.calibration.proofs.divisor.Goals as goal
 use Rattle.calibration.proofs.divisor.Goals.{Start}
 

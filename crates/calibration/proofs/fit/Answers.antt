@@ -3,7 +3,6 @@ use borrow.Author.Rules.{rules}
 use mathlib.Core.Path.{◌≡◌, sym, ap, subst, ◌∙◌}
 use mathlib.Core.Bool.{true}
 use mathlib.Core.List.{List}
-use borrow.Author.Tests.{not-true, not-false}
 use Prim.Native.Nat.{◌<◌}
 use native.Mathlib.Omega.{arith}
 use lib.IntN.{ℤ}
@@ -14,8 +13,8 @@ use mir.Facts.{to_z-of_z}
 use Rattle.calibration.specs.Calibration.{sums_of, count_fits, fit_from}
 use Rattle.calibration.specs.CodeLaws.{SumsRanged}
 use Rattle.calibration.specs.ListLaws.{count_is}
-use Rattle.calibration.specs.SumLaws.{sums_ranged}
-use Rattle.calibration.specs.VerdictLaws.{count_unfit, count_fit, count_above}
+use Rattle.calibration.proofs.SumLaws.{sums_ranged}
+use Rattle.calibration.proofs.VerdictLaws.{count_unfit, count_fit, count_above}
 use Rattle.calibration.specs.declared.Pair.{Pair}
 use Rattle.calibration.specs.declared.Sums.{Sums}
 use Rattle.calibration.proofs.fit.Goals as goal

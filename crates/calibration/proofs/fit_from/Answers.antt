@@ -15,8 +15,8 @@ use Rattle.charts.specs.SignedLocals.{Loc, arg, lit, le_true, le_false, eq_true,
 use Rattle.calibration.specs.Pairs.{Between, between_answers}
 use Rattle.calibration.specs.Calibration.{flat_of, rise_of, divisor_of, intercept_of, slope_ranged_of, line_fits, LineRanged}
 use Rattle.calibration.specs.CodeLaws.{slope_code, slope_refused, slope_taken}
-use Rattle.calibration.specs.FitLaws.{rise_bound, divisor_bound, line_ranged}
-use Rattle.calibration.specs.VerdictLaws.{divisor_by, slope_by, no_divisor, no_slope, a_line}
+use Rattle.calibration.proofs.FitLaws.{rise_bound, divisor_bound, line_ranged}
+use Rattle.calibration.proofs.VerdictLaws.{divisor_by, slope_by, no_divisor, no_slope, a_line}
 use Rattle.calibration.specs.declared.Line.{Line}
 use Rattle.calibration.specs.declared.Pair.{Pair}
 use Rattle.calibration.proofs.fit_from.Goals as goal

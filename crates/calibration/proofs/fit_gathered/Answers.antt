@@ -1,6 +1,5 @@
 -- `calibration::fit_gathered` meets its contract.
 use borrow.Author.Rules.{rules}
-use borrow.Author.Tests.{not-true, not-false}
 use mathlib.Core.Path.{◌≡◌, sym, ap, subst, ◌∙◌}
 use mathlib.Core.Bool.{Bool, true, ◌&&◌}
 use native.Mathlib.Omega.{arith}
@@ -13,7 +12,7 @@ use mir.Facts.{to_z-of_z}
 use Rattle.charts.specs.Rounding.{edition_known}
 use Rattle.calibration.specs.Pairs.{RequirementsRanged, ZRanged, requirements_ranged_of, z_ranged_of}
 use Rattle.calibration.specs.Calibration.{fit_of}
-use Rattle.calibration.specs.LentListLaws.{gathered_ranged, gathered_answers, gathered_unknown, gathered_unranged, gathered_over, gathered_fit_lem}
+use Rattle.calibration.proofs.LentListLaws.{gathered_ranged, gathered_answers, gathered_unknown, gathered_unranged, gathered_over, gathered_fit_lem}
 use Rattle.calibration.proofs.fit_gathered.Goals as goal
 use Rattle.calibration.proofs.fit_gathered.Goals.{After-z_ranged, Else-not-edition_known, Else-not-ranged, Start}
 

@@ -1,10 +1,10 @@
 -- `calibration::fit_list` meets its contract.
-use Rattle.std.proofs.Common.{◌≡◌, sym, subst, ◌∙◌, ◌++◌, ◌∷◌, [], arith, take, get_or, take_all}
+use Rattle.std.proofs.Common.{sym, subst, ◌∙◌, [], arith, take, get_or, take_all}
 use mir.Syntax.{w32}
 use mir.Facts.{to_z-of_z}
 use Rattle.std.proofs.Math.Seq.{take-suc}
 use native.Mathlib.Numerals.{add-one}
-use Rattle.calibration.specs.LentListLaws.{Gathers, gathers_none, gathers_more, gathers_ranged, gathers_fit}
+use Rattle.calibration.proofs.LentListLaws.{Gathers, gathers_none, gathers_more, gathers_ranged, gathers_fit}
 use Rattle.calibration.specs.ListLaws.{unset}
 use Rattle.calibration.specs.declared.Gathered.{Gathered}
 use Rattle.calibration.proofs.fit_list.Goals as goal

@@ -1,6 +1,6 @@
 -- The loop's invariant: `g` is what is gathered of the first i pairs.
 use Rattle.std.proofs.Common.{◌-◌, ◌≤◌, length, take}
-use Rattle.calibration.specs.LentListLaws.{Gathers}
+use Rattle.calibration.proofs.LentListLaws.{Gathers}
 use Rattle.calibration.proofs.fit_list.Given as goal
 
 abbrev pub invariant-loop-i : goal.invariant-loop-i

@@ -1,6 +1,6 @@
 -- `calibration::gather` meets its contract.
 use borrow.Author.Rules.{rules}
-use Rattle.calibration.specs.LentListLaws.{gathers_past, gathers_kept}
+use Rattle.calibration.proofs.LentListLaws.{gathers_past, gathers_kept}
 use Rattle.calibration.proofs.gather.Goals as goal
 
 pub pair_ranged-requires : goal.pair_ranged-requires

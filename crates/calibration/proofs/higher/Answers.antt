@@ -9,7 +9,6 @@ use Rattle.charts.specs.Tests.{if_yes, if_no}
 use Rattle.calibration.specs.Calibration.{higher_of}
 use Rattle.calibration.proofs.higher.Goals as goal
 use Rattle.calibration.proofs.higher.Lts as lts
-use Rattle.calibration.proofs.higher.Tie as tie
 use Rattle.calibration.proofs.higher.Reads as reads
 
 abbrev At-After-struct_told-1 : Type 0

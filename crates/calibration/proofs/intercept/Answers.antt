@@ -12,7 +12,7 @@ use Rattle.charts.specs.Integers.{abs_sfits, abs_diff, ud_lt}
 use Rattle.charts.specs.SignedLocals.{Loc, arg, lit, sub, sub_need, mul, mul_need, zero_minus}
 use Rattle.calibration.specs.PairLaws.{between_abs, between_fits, wide, wide_need}
 use Rattle.calibration.specs.Calibration.{intercept_of}
-use Rattle.calibration.specs.FitLaws.{x_ranged, y_ranged, product_size}
+use Rattle.calibration.proofs.FitLaws.{x_ranged, y_ranged, product_size}
 use Rattle.calibration.proofs.intercept.Goals as goal
 use Rattle.calibration.proofs.intercept.Lts as lts
 use Rattle.calibration.proofs.intercept.Tie as tie

@@ -2,11 +2,11 @@
 use borrow.Author.Rules.{rules}
 use mathlib.Core.Path.{◌≡◌, ap, ◌∙◌}
 use mathlib.Core.List.{map}
-use Prim.Native.Nat.{ℕ, ◌-◌, ◌≤◌, ◌<◌}
+use Prim.Native.Nat.{ℕ, ◌≤◌, ◌<◌}
 use native.Mathlib.Omega.{arith}
 use lib.Dec.{lit<}
 use lib.IntN.{ℤ, pos, nat_abs, ◌-ℤ◌, ◌*ℤ◌}
-use lib.ListN.{length, take, drop, get_or}
+use lib.ListN.{length, take, get_or}
 use lib.Signed.{lt_z}
 use mir.Syntax.{w32, w64}
 use mir.Val.{SFits, to_z, of_z}
@@ -14,9 +14,9 @@ use Rattle.charts.specs.Integers.{abs_diff, abs_sfits}
 use Rattle.charts.specs.SignedLocals.{Loc, lit, sub, sub_need, mul, mul_need, lt_flag}
 use Rattle.calibration.specs.Pairs.{PairRanged, OxygenRanged}
 use Rattle.calibration.specs.PairLaws.{between_abs, between_fits, wide, wide_need, oxygen_reads}
-use Rattle.calibration.specs.Calibration.{measured_of, span_from, span_of, flat_of}
-use Rattle.calibration.specs.ConditionLaws.{measured_bound}
-use Rattle.calibration.specs.FitLaws.{product_size}
+use Rattle.calibration.specs.Calibration.{measured_of, span_of, flat_of}
+use Rattle.calibration.proofs.ConditionLaws.{measured_bound}
+use Rattle.calibration.proofs.FitLaws.{product_size}
 use Rattle.calibration.specs.ListLaws.{next, passed, unset, pair_ranged}
 use Rattle.calibration.specs.SpanLaws.{Spanned, widened_spanned}
 use Rattle.calibration.specs.declared.Pair.{Pair}

@@ -12,7 +12,7 @@ use mir.Facts.{to_z-of_z}
 use Rattle.calibration.specs.PairLaws.{between_fits, oxygen_reads, sigma_need, sigma_reads, sigma_small, sigma_is}
 use Rattle.calibration.specs.Calibration.{some_beyond, deviations_of, q_of, residuals_of, top_of}
 use Rattle.calibration.specs.ListLaws.{count_is}
-use Rattle.calibration.specs.VerdictLaws.{Dispersed, dispersed, pairs_of_pairs, line_beyond, line_stands}
+use Rattle.calibration.proofs.VerdictLaws.{Dispersed, dispersed, pairs_of_pairs, line_beyond, line_stands}
 use Rattle.calibration.specs.declared.Pair.{Pair}
 use Rattle.calibration.specs.declared.Residuals.{Residuals}
 use Rattle.calibration.proofs.line_fits.Goals as goal

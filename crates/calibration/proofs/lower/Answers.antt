@@ -9,7 +9,6 @@ use Rattle.charts.specs.Tests.{if_yes, if_no}
 use Rattle.calibration.specs.Calibration.{lower_of}
 use Rattle.calibration.proofs.lower.Goals as goal
 use Rattle.calibration.proofs.lower.Lts as lts
-use Rattle.calibration.proofs.lower.Tie as tie
 use Rattle.calibration.proofs.lower.Reads as reads
 
 abbrev At-After-struct_told-1 : Type 0

@@ -2,17 +2,16 @@
 use borrow.Author.Rules.{rules}
 use mathlib.Core.Path.{◌≡◌, ◌∙◌}
 use mathlib.Core.Bool.{false}
-use mathlib.Core.List.{foldl}
-use Prim.Native.Nat.{ℕ, ◌-◌, ◌≤◌, ◌<◌}
+use Prim.Native.Nat.{ℕ, ◌≤◌, ◌<◌}
 use native.Mathlib.Omega.{arith}
 use lib.ListN.{length, take, drop, get_or}
 use mir.Syntax.{w32}
 use mir.Val.{to_z, of_z}
 use mir.Facts.{to_z-of_z}
 use Rattle.calibration.specs.Pairs.{PairRanged}
-use Rattle.calibration.specs.Calibration.{measured_of, c_of, far_of, beyond_of, residuals_of}
+use Rattle.calibration.specs.Calibration.{measured_of, c_of, far_of, beyond_of}
 use Rattle.calibration.specs.ListLaws.{next, passed, unset, pair_ranged}
-use Rattle.calibration.specs.ResidualLaws.{ResidualsRanged, with_pair, pair_near, near_at, residuals_from, begun_ranged, with_residual_ranged}
+use Rattle.calibration.proofs.ResidualLaws.{with_pair, pair_near, near_at, residuals_from, begun_ranged, with_residual_ranged}
 use Rattle.calibration.specs.declared.Pair.{Pair}
 use Rattle.calibration.proofs.pair_residuals.Goals as goal
 use Rattle.calibration.proofs.pair_residuals.Goals.{In-loop-i, Start}

@@ -1,16 +1,14 @@
 -- `calibration::pair_sums` meets its contract. The loop's invariant: `u` counts the pairs passed, is in range, and with the pairs left makes the whole sums.
 use borrow.Author.Rules.{rules}
 use mathlib.Core.Path.{◌≡◌, refl}
-use mathlib.Core.List.{foldl}
-use Prim.Native.Nat.{◌-◌, ◌≤◌}
+use Prim.Native.Nat.{◌≤◌}
 use native.Mathlib.Omega.{arith}
-use lib.ListN.{length, take, drop, get_or}
+use lib.ListN.{length, take, get_or}
 use Rattle.calibration.specs.Pairs.{PairRanged}
-use Rattle.calibration.specs.Calibration.{plus_of, sums_of}
-use Rattle.calibration.specs.CodeLaws.{SumsRanged}
-use Rattle.calibration.specs.FitLaws.{plus_ranged}
+use Rattle.calibration.specs.Calibration.{plus_of}
+use Rattle.calibration.proofs.FitLaws.{plus_ranged}
 use Rattle.calibration.specs.ListLaws.{next, passed, unset, pair_ranged}
-use Rattle.calibration.specs.SumLaws.{none_ranged, sums_from}
+use Rattle.calibration.proofs.SumLaws.{none_ranged, sums_from}
 use Rattle.calibration.proofs.pair_sums.Goals as goal
 use Rattle.calibration.proofs.pair_sums.Goals.{In-loop-i, Start}
 

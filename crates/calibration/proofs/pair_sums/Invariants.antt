@@ -1,16 +1,10 @@
 -- `calibration::pair_sums` meets its contract. The loop's invariant: `u` counts the pairs passed, is in range, and with the pairs left makes the whole sums.
-use borrow.Author.Rules.{rules}
-use mathlib.Core.Path.{◌≡◌, refl}
+use mathlib.Core.Path.{◌≡◌}
 use mathlib.Core.List.{foldl}
 use Prim.Native.Nat.{◌-◌, ◌≤◌}
-use native.Mathlib.Omega.{arith}
-use lib.ListN.{length, take, drop, get_or}
-use Rattle.calibration.specs.Pairs.{PairRanged}
+use lib.ListN.{take, drop}
 use Rattle.calibration.specs.Calibration.{plus_of, sums_of}
 use Rattle.calibration.specs.CodeLaws.{SumsRanged}
-use Rattle.calibration.specs.FitLaws.{plus_ranged}
-use Rattle.calibration.specs.ListLaws.{next, passed, unset, pair_ranged}
-use Rattle.calibration.specs.SumLaws.{none_ranged, sums_from}
 use Rattle.calibration.proofs.pair_sums.Given as goal
 
 abbrev pub invariant-loop-i : goal.invariant-loop-i

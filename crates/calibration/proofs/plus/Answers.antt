@@ -7,10 +7,9 @@ use Rattle.calibration.specs.Pairs.{Between}
 use Rattle.calibration.specs.PairLaws.{between_fits, wide, wide_need}
 use Rattle.calibration.specs.Calibration.{plus_of}
 use Rattle.calibration.specs.CodeLaws.{SumsRanged}
-use Rattle.calibration.specs.FitLaws.{x_ranged, y_ranged, xy_ranged, xx_ranged, product_between, plus_ranged}
+use Rattle.calibration.proofs.FitLaws.{x_ranged, y_ranged, xy_ranged, xx_ranged, product_between, plus_ranged}
 use Rattle.calibration.proofs.plus.Goals as goal
 use Rattle.calibration.proofs.plus.Lts as lts
-use Rattle.calibration.proofs.plus.Tie as tie
 use Rattle.calibration.proofs.plus.Reads as reads
 use Rattle.calibration.proofs.plus.Goals.{After-struct_told-2-1, After-struct_told-6-1, Start}
 

@@ -8,7 +8,7 @@ use Rattle.charts.specs.Integers.{abs_sfits}
 use Rattle.charts.specs.SignedLocals.{Loc, arg, lit, sub, sub_need, mul, mul_need}
 use Rattle.calibration.specs.PairLaws.{between_fits}
 use Rattle.calibration.specs.Calibration.{rise_of}
-use Rattle.calibration.specs.FitLaws.{n_ranged, x_ranged, y_ranged, xy_ranged, product_between, apart}
+use Rattle.calibration.proofs.FitLaws.{n_ranged, x_ranged, y_ranged, xy_ranged, product_between, apart}
 use Rattle.calibration.proofs.rise.Goals as goal
 use Rattle.calibration.proofs.rise.Goals.{Start}
 

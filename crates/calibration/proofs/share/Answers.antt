@@ -9,8 +9,8 @@ use Rattle.charts.specs.Integers.{ints, abs_sfits}
 use Rattle.charts.specs.SignedLocals.{Loc, arg, mul, mul_need, cast, cast_need}
 use Rattle.charts.specs.Rounding.{near_of}
 use Rattle.calibration.specs.PairLaws.{wide, wide_need}
-use Rattle.calibration.specs.FitLaws.{product_size}
-use Rattle.calibration.specs.ResidualLaws.{share_bound}
+use Rattle.calibration.proofs.FitLaws.{product_size}
+use Rattle.calibration.proofs.ResidualLaws.{share_bound}
 use Rattle.calibration.proofs.share.Goals as goal
 use Rattle.calibration.proofs.share.Goals.{After-near, Start}
 

@@ -1,6 +1,5 @@
 -- `calibration::slope` meets its contract: the whole part and the rest by `divide`, what the rest gives by `near_unsigned`, and B from both.
 use borrow.Author.Rules.{rules}
-use borrow.Author.Tests.{not-true, not-false}
 use mathlib.Core.Path.{◌≡◌, sym, ap, subst, ◌∙◌}
 use mathlib.Core.Bool.{true}
 use Prim.Native.Nat.{ℕ, ◌*◌, ◌≤◌, ◌<◌}

@@ -12,7 +12,7 @@ use Rattle.charts.specs.SignedLocals.{Loc, arg, lit, add, add_need, sub, sub_nee
 use Rattle.calibration.specs.Pairs.{ConditionsRanged, OxygenRanged}
 use Rattle.calibration.specs.Conditions.{times_of, standard_of}
 use Rattle.calibration.specs.PairLaws.{between_fits, wide, wide_need}
-use Rattle.calibration.specs.ConditionLaws.{Factor, Sized, times_sized, temperature_factor, pressure_factor, water_factor, oxygen_factor}
+use Rattle.calibration.proofs.ConditionLaws.{Factor, Sized, times_sized, temperature_factor, pressure_factor, water_factor, oxygen_factor}
 use Rattle.calibration.proofs.standard_conditions.Goals as goal
 use Rattle.calibration.proofs.standard_conditions.Lts as lts
 use Rattle.calibration.proofs.standard_conditions.Tie as tie

@@ -11,7 +11,7 @@ use mir.Facts.{to_z-of_z}
 use Rattle.charts.specs.Tests.{if_yes, if_no}
 use Rattle.calibration.specs.Calibration.{top_of, share_of, higher_of}
 use Rattle.calibration.specs.PairLaws.{between_abs, between_fits}
-use Rattle.calibration.specs.ResidualLaws.{not_far}
+use Rattle.calibration.proofs.ResidualLaws.{not_far}
 use Rattle.calibration.specs.declared.Standard.{Standard}
 use Rattle.calibration.proofs.top.Goals as goal
 use Rattle.calibration.proofs.top.Goals.{After-share, After-share-first, Start}

@@ -6,7 +6,7 @@ use Rattle.charts.specs.Integers.{abs_sum, abs_sfits}
 use Rattle.charts.specs.SignedLocals.{Loc, arg, add, add_need, sub, sub_need, mul, mul_need}
 use Rattle.calibration.specs.PairLaws.{between_fits, wide, wide_need}
 use Rattle.calibration.specs.CodeLaws.{with_residual_of}
-use Rattle.calibration.specs.ResidualLaws.{not_far, residual_size, square_size}
+use Rattle.calibration.proofs.ResidualLaws.{not_far, residual_size, square_size}
 use Rattle.calibration.proofs.with_residual.Goals as goal
 use Rattle.calibration.proofs.with_residual.Lts as lts
 use Rattle.calibration.proofs.with_residual.Tie as tie

@@ -1,7 +1,7 @@
 -- `cases::calibration_cases::try_annual` is safe: what the tests leave is what the call asks.
 use Rattle.std.proofs.Common.{rules}
 use borrow.Author.Tests.{not-false}
-use Rattle.calibration.specs.ConditionLaws.{line_answers}
+use Rattle.calibration.proofs.ConditionLaws.{line_answers}
 use Rattle.cases.specs.Answered.{answered}
 use Rattle.cases.proofs.calibration_cases.try_annual.Statement.{statement}
 use Rattle.cases.proofs.calibration_cases.try_annual.Tie as tie

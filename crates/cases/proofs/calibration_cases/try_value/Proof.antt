@@ -1,7 +1,7 @@
 -- `cases::calibration_cases::try_value` is safe: what the tests leave is what the call asks.
 use Rattle.std.proofs.Common.{pos, rules}
 use Rattle.calibration.specs.Pairs.{conditions_answers}
-use Rattle.calibration.specs.ConditionLaws.{line_answers}
+use Rattle.calibration.proofs.ConditionLaws.{line_answers}
 use Rattle.cases.specs.Answered.{answered, within}
 use Rattle.cases.proofs.calibration_cases.try_value.Statement.{statement}
 use Rattle.cases.proofs.calibration_cases.try_value.Tie as tie

@@ -9,7 +9,7 @@ use Rattle.records.specs.State.{facts_of}
 use Rattle.records.specs.Soundness.{SettingSound}
 use Rattle.records.specs.Table.{calibration_of}
 use Rattle.file.specs.Closings.{first_rows, kept, calibration_record}
-use Rattle.file.specs.ClosingLaws as L
+use Rattle.file.proofs.ClosingLaws as L
 use borrow.Author.Rules.{rules}
 use Rattle.file.proofs.making.close.Goals as goal
 use Rattle.file.proofs.making.close.Lts as lts

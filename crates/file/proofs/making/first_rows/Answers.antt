@@ -5,7 +5,7 @@ use mir.Facts.{to_z-of_z}
 use borrow.Author.Rules.{rules}
 use Rattle.records.specs.State.{facts_of}
 use Rattle.file.specs.Closings.{z_fits}
-use Rattle.file.specs.ClosingLaws.{begun_stops, time_stops, z_stops, none_stops}
+use Rattle.file.proofs.ClosingLaws.{begun_stops, time_stops, z_stops, none_stops}
 use Rattle.file.proofs.making.first_rows.Goals as goal
 use Rattle.file.proofs.making.first_rows.Goals.{After-z_fits}
 

@@ -6,7 +6,7 @@ use mir.Val.{to_z, of_z}
 use mir.Facts.{to_z-of_z}
 use Rattle.records.specs.Bytes.{bytes32, written}
 use Rattle.file.specs.Closings.{unsigned32, unsigned64, bytes64}
-use Rattle.file.specs.ClosingLaws.{figures_written}
+use Rattle.file.proofs.ClosingLaws.{figures_written}
 use borrow.Author.Rules.{rules}
 use Rattle.file.proofs.making.write_figures.Goals as goal
 use Rattle.file.proofs.making.write_figures.Lts as lts

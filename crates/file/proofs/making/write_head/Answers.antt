@@ -1,12 +1,11 @@
 -- `making::write_head` meets its contract.
-use mathlib.Core.Path.{◌≡◌, ◌∙◌, ap}
+use mathlib.Core.Path.{◌≡◌, ◌∙◌}
 use native.Mathlib.Omega.{arith}
-use lib.ListN.{length, length-set}
+use lib.ListN.{length-set}
 use borrow.Author.Rules.{rules}
 use Rattle.records.specs.Bytes.{written}
-use Rattle.records.specs.BytesLaws.{written_length}
 use Rattle.file.specs.Closings.{head_of}
-use Rattle.file.specs.ClosingLaws.{head_length, head_written}
+use Rattle.file.proofs.ClosingLaws.{head_written}
 use Rattle.file.proofs.making.write_head.Goals as goal
 use Rattle.file.proofs.making.write_head.Lts as lts
 use Rattle.file.proofs.making.write_head.Tie as tie

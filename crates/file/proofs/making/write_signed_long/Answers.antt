@@ -5,7 +5,7 @@ use Prim.Native.Nat.{ℕ, ◌+◌, ◌/◌}
 use mir.Facts.{to_z-of_z}
 use Rattle.records.specs.Bytes.{bytes32, written}
 use Rattle.file.specs.Closings.{unsigned64, bytes64}
-use Rattle.file.specs.ClosingLaws.{long_written}
+use Rattle.file.proofs.ClosingLaws.{long_written}
 use borrow.Author.Rules.{rules}
 use Rattle.file.proofs.making.write_signed_long.Goals as goal
 

@@ -4,7 +4,7 @@ use mathlib.Core.Path.{◌≡◌, sym, subst}
 use mathlib.Core.Bool.{◌&&◌}
 use Rattle.records.specs.Answers.{zero_alarms, span_alarms, usable_of}
 use Rattle.file.specs.Statement.{report_of, Statement3}
-use Rattle.file.specs.StatementLaws.{statement3}
+use Rattle.file.proofs.StatementLaws.{statement3}
 use Rattle.file.specs.declared.Report.{Report}
 use Rattle.file.proofs.reporting.report.Goals as goal
 use Rattle.file.proofs.reporting.report.Goals.{After-recent}

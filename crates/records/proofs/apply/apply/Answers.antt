@@ -1,15 +1,15 @@
 -- `apply::apply` meets its contract.
-use mathlib.Core.Path.{◌≡◌, sym, ap, ◌∙◌}
+use mathlib.Core.Path.{◌≡◌, ap, ◌∙◌}
 use native.Mathlib.Omega.{arith}
-use lib.ListN.{length, length-map, length-take}
+use lib.ListN.{length, length-take}
 use Rattle.records.specs.Record.{Record, kind, mark, minute, mark_limit}
 use Rattle.records.specs.RecordLaws.{FormedFields, formed_fields, setting_ranged_lem, reading_ranged_lem, waiting_ranged_lem, value_ranged_lem}
 use Rattle.records.specs.Kinds.{sets}
 use Rattle.records.specs.Table.{reading_refusal}
-use Rattle.records.specs.TableLaws.{Accepted, accepted, reading_passed, pair_passed, PairPasses, pair_passes}
+use Rattle.records.proofs.TableLaws.{Accepted, accepted, reading_passed, pair_passed, PairPasses, pair_passes}
 use Rattle.records.specs.State.{facts_of}
 use Rattle.records.specs.StateParts.{with_setting, with_reading, with_reset, with_calibration, with_annual, emptied, judged_of}
-use Rattle.records.specs.SoundnessLaws.{setting_known}
+use Rattle.records.proofs.SoundnessLaws.{setting_known}
 use Rattle.records.specs.declared.state.State.{State}
 use Rattle.records.proofs.ApplyLaws.{no_kind, judged_total, judged_outside, applied_setting, applied_reading, applied_reset, applied_pair, applied_calibration, applied_annual, applied_value, applied_drop}
 use borrow.Author.Rules.{rules}

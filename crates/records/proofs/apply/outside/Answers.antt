@@ -5,7 +5,7 @@ use mir.Val.{to_z, of_z}
 use mir.Facts.{to_z-of_z}
 use Rattle.calibration.specs.Calibration.{LineRanged, value_of}
 use Rattle.calibration.specs.PairLaws.{between_fits}
-use Rattle.calibration.specs.ConditionLaws.{value_fits}
+use Rattle.calibration.proofs.ConditionLaws.{value_fits}
 use Rattle.records.specs.Record.{signal_of, value_conditions}
 use Rattle.records.specs.RecordLaws.{value_fields, ValueFields}
 use Rattle.records.specs.Kinds.{line_of, outside_by}
@@ -64,8 +64,8 @@ returns-in-InForce c =
     let a = c.args in
     let f = c.in-InForce.f in
     let is : c.value-c.result ≡ value_of a.edition a.s.requirements.oxygen (line_of f) (value_conditions a.r.now) (signal_of a.r.now) =
-        c.value-c.ensures ∙ rw (oxygen-back k, slope_back f (line k), intercept_back f (line k), c.conditions_at.ensures, signal-back k) in
+    c.value-c.ensures ∙ rw (oxygen-back k, slope_back f (line k), intercept_back f (line k), c.conditions_at.ensures, signal-back k) in
     let back : to_z w32 (of_z w32 c.value-c.result.0) ≡ c.value-c.result.0 =
-        rw is (to_z-of_z {w = w32} (value_fits _ _ _ _ _ c.requires.1.requirements.oxygen (line k) (fields k).conditions (fields k).signal)) in
+    rw is (to_z-of_z {w = w32} (value_fits _ _ _ _ _ c.requires.1.requirements.oxygen (line k) (fields k).conditions (fields k).signal)) in
     rw (back, top_back (goal.at.returns-in-InForce c).After-struct_told-in-InForce-3-1, is)
     (sym (ap (λ (k : Calibration). outside_by a.edition k a.s a.r.now) c.in-InForce.is))

@@ -9,7 +9,7 @@ use Rattle.charts.specs.Charts.{applied_of}
 use Rattle.records.specs.Record.{kind, mark, minute, mark_limit, reading_ranged, difference_of}
 use Rattle.records.specs.RecordLaws.{formed_fields, reading_ranged_lem, reading_fields}
 use Rattle.records.specs.Table.{reading_refusal}
-use Rattle.records.specs.TableLaws.{Accepted, accepted, reading_passed, zero_open, span_open}
+use Rattle.records.proofs.TableLaws.{Accepted, accepted, reading_passed, zero_open, span_open}
 use Rattle.records.specs.State.{facts_of}
 use Rattle.records.proofs.InPlaceLaws.{zero_changes, span_changes}
 use borrow.Author.Rules.{rules}

@@ -4,9 +4,9 @@ use mathlib.Core.Bool.{true, false}
 use Rattle.records.specs.Record.{kind, mark, minute}
 use Rattle.records.specs.RecordLaws.{value_ranged_lem}
 use Rattle.records.specs.Kinds.{sets}
-use Rattle.records.specs.TableLaws.{Accepted, accepted}
+use Rattle.records.proofs.TableLaws.{Accepted, accepted}
 use Rattle.records.specs.State.{facts_of}
-use Rattle.records.specs.SoundnessLaws.{setting_known}
+use Rattle.records.proofs.SoundnessLaws.{setting_known}
 use Rattle.records.proofs.InPlaceLaws.{value_changes, minute_changes}
 use borrow.Author.Rules.{rules}
 use Rattle.records.proofs.apply.value.Goals as goal

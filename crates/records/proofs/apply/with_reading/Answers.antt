@@ -6,7 +6,7 @@ use mir.Facts.{to_z-of_z}
 use borrow.Author.Tests.{eq-eqb, ne_eqb}
 use Rattle.records.specs.Record.{mark, difference_of}
 use Rattle.records.specs.RecordLaws.{reading_fields}
-use Rattle.records.specs.TableLaws.{zero_open, span_open}
+use Rattle.records.proofs.TableLaws.{zero_open, span_open}
 use Rattle.records.specs.State.{facts_of}
 use Rattle.records.specs.StateParts.{with_zero, with_span, with_reading}
 use borrow.Author.Rules.{rules}

@@ -1,11 +1,9 @@
 -- `bytes::all_zero` meets its contract. The invariant: no bit came so far and the bytes from i on are zero, exactly if all are.
-use mathlib.Core.Path.{◌≡◌, refl, sym, ◌∙◌}
+use mathlib.Core.Path.{◌≡◌}
 use mathlib.Core.Bool.{◌&&◌}
 use Prim.Native.Nat.{◌≤◌, ◌-◌}
-use native.Mathlib.Omega.{arith}
 use lib.Dec.{eqb}
 use Rattle.records.specs.Bytes.{all_zero, part}
-use Rattle.records.proofs.ByteLoops.{zero_turn, zero_end}
 use Rattle.records.proofs.bytes.all_zero.Given as goal
 
 abbrev pub invariant-loop-i : goal.invariant-loop-i

@@ -1,9 +1,9 @@
 -- `bytes::clear` meets its contract. The invariant: the first i of the zeros are written.
-use mathlib.Core.Path.{◌≡◌, refl, sym, ◌∙◌, ap}
+use mathlib.Core.Path.{refl, sym, ◌∙◌, ap}
 use mathlib.Core.List.{List}
-use Prim.Native.Nat.{ℕ, ◌≤◌, ◌-◌, ◌+◌}
+use Prim.Native.Nat.{ℕ, ◌+◌}
 use native.Mathlib.Omega.{arith}
-use lib.ListN.{length, set, length-set, replicate, length-replicate, get_or-replicate}
+use lib.ListN.{set, length-set, replicate, length-replicate, get_or-replicate}
 use lib.Seq.{paste, paste-zero}
 use Rattle.records.proofs.ByteLoops.{write_turn, write_end}
 use Rattle.records.proofs.bytes.clear.Goals as goal

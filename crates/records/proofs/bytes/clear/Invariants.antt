@@ -1,11 +1,8 @@
 -- `bytes::clear` meets its contract. The invariant: the first i of the zeros are written.
-use mathlib.Core.Path.{◌≡◌, refl, sym, ◌∙◌, ap}
-use mathlib.Core.List.{List}
-use Prim.Native.Nat.{ℕ, ◌≤◌, ◌-◌, ◌+◌}
-use native.Mathlib.Omega.{arith}
-use lib.ListN.{length, set, length-set, replicate, length-replicate, get_or-replicate}
-use lib.Seq.{paste, paste-zero}
-use Rattle.records.proofs.ByteLoops.{write_turn, write_end}
+use mathlib.Core.Path.{◌≡◌}
+use Prim.Native.Nat.{◌≤◌, ◌-◌}
+use lib.ListN.{length, replicate}
+use lib.Seq.{paste}
 use Rattle.records.proofs.bytes.clear.Given as goal
 
 abbrev pub invariant-loop-i : goal.invariant-loop-i

@@ -1,9 +1,8 @@
 -- `bytes::copy` meets its contract. The invariant: the first i bytes of the source are written.
-use mathlib.Core.Path.{◌≡◌, refl, ◌∙◌}
-use Prim.Native.Nat.{◌≤◌, ◌-◌}
+use mathlib.Core.Path.{refl, ◌∙◌}
 use native.Mathlib.Omega.{arith}
-use lib.ListN.{length, length-set}
-use lib.Seq.{paste, paste-zero}
+use lib.ListN.{length-set}
+use lib.Seq.{paste-zero}
 use Rattle.records.proofs.ByteLoops.{write_turn, write_end}
 use Rattle.records.proofs.bytes.copy.Goals as goal
 

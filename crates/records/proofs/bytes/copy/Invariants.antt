@@ -1,10 +1,8 @@
 -- `bytes::copy` meets its contract. The invariant: the first i bytes of the source are written.
-use mathlib.Core.Path.{◌≡◌, refl, ◌∙◌}
+use mathlib.Core.Path.{◌≡◌}
 use Prim.Native.Nat.{◌≤◌, ◌-◌}
-use native.Mathlib.Omega.{arith}
-use lib.ListN.{length, length-set}
-use lib.Seq.{paste, paste-zero}
-use Rattle.records.proofs.ByteLoops.{write_turn, write_end}
+use lib.ListN.{length}
+use lib.Seq.{paste}
 use Rattle.records.proofs.bytes.copy.Given as goal
 
 abbrev pub invariant-loop-i : goal.invariant-loop-i

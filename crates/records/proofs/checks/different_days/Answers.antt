@@ -1,14 +1,11 @@
 -- `checks::different_days` meets its contract. The invariant: the days counted and those still to count, from i on, make up all.
-use mathlib.Core.Path.{◌≡◌, sym, ap, ◌∙◌}
+use mathlib.Core.Path.{sym, ap, ◌∙◌}
 use mathlib.Core.List.{List, map}
-use mathlib.Core.Logic.{⊎_elim}
-use Prim.Native.Nat.{◌≤◌, ◌+◌, ◌-◌}
 use native.Mathlib.Omega.{arith}
-use borrow.Author.Tests.{not-true, not-false}
 use Rattle.records.specs.Table.{different, end_day}
 use Rattle.records.specs.ListLaws.{from_end}
 use Rattle.records.specs.declared.state.Waiting.{Waiting}
-use Rattle.records.proofs.PairLoops.{end_days, day_again, day_new}
+use Rattle.records.proofs.PairLoops.{day_again, day_new}
 use Rattle.records.proofs.checks.different_days.Goals as goal
 use Rattle.records.proofs.checks.different_days.Goals.{then-not-among, else-not-among}
 
@@ -45,8 +42,8 @@ loop-i-preserved c =
     let a = c.args in
     let e = sym c.among.ensures in
     elim c.if-not-among.branch [
-      then-not-among w ↦ (omega arith, omega arith, omega (arith, day_new a.pairs a.n v.i _ (omega arith) (omega arith) (e ∙ w.if-not-among.true)))
-    | else-not-among w ↦ (omega arith, omega arith, omega (arith, day_again a.pairs a.n v.i _ (omega arith) (omega arith) (e ∙ w.if-not-among.false)))
+      | then-not-among w ↦ (omega arith, omega arith, omega (arith, day_new a.pairs a.n v.i _ (omega arith) (omega arith) (e ∙ w.if-not-among.true)))
+      | else-not-among w ↦ (omega arith, omega arith, omega (arith, day_again a.pairs a.n v.i _ (omega arith) (omega arith) (e ∙ w.if-not-among.false)))
     ]
 
 pub returns : goal.returns

@@ -1,14 +1,8 @@
 -- `checks::different_days` meets its contract. The invariant: the days counted and those still to count, from i on, make up all.
-use mathlib.Core.Path.{◌≡◌, sym, ap, ◌∙◌}
-use mathlib.Core.List.{List, map}
-use mathlib.Core.Logic.{⊎_elim}
+use mathlib.Core.Path.{◌≡◌}
 use Prim.Native.Nat.{◌≤◌, ◌+◌, ◌-◌}
-use native.Mathlib.Omega.{arith}
-use borrow.Author.Tests.{not-true, not-false}
-use Rattle.records.specs.Table.{different, end_day}
-use Rattle.records.specs.ListLaws.{from_end}
-use Rattle.records.specs.declared.state.Waiting.{Waiting}
-use Rattle.records.proofs.PairLoops.{end_days, day_again, day_new}
+use Rattle.records.specs.Table.{different}
+use Rattle.records.proofs.PairLoops.{end_days}
 use Rattle.records.proofs.checks.different_days.Given as goal
 
 abbrev pub invariant-loop-i : goal.invariant-loop-i

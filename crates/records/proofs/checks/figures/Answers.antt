@@ -1,9 +1,9 @@
 -- `checks::figures` meets its contract. The invariant: the figures of the first i pairs are stored.
-use mathlib.Core.Path.{◌≡◌, refl, sym, ap, ◌∙◌}
+use mathlib.Core.Path.{refl, sym, ap, ◌∙◌}
 use mathlib.Core.List.{map}
-use Prim.Native.Nat.{◌≤◌, ◌+◌, ◌-◌}
+use Prim.Native.Nat.{◌+◌}
 use native.Mathlib.Omega.{arith}
-use lib.ListN.{length, take, length-set, length-map, get_or-map, set}
+use lib.ListN.{take, length-set, length-map, get_or-map, set}
 use Rattle.records.specs.Table.{pair_of_waiting}
 use Rattle.records.specs.ListLaws.{store_next, store_end}
 use Rattle.records.proofs.checks.figures.Goals as goal

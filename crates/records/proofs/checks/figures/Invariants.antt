@@ -1,11 +1,9 @@
 -- `checks::figures` meets its contract. The invariant: the figures of the first i pairs are stored.
-use mathlib.Core.Path.{◌≡◌, refl, sym, ap, ◌∙◌}
+use mathlib.Core.Path.{◌≡◌}
 use mathlib.Core.List.{map}
-use Prim.Native.Nat.{◌≤◌, ◌+◌, ◌-◌}
-use native.Mathlib.Omega.{arith}
-use lib.ListN.{length, take, length-set, length-map, get_or-map, set}
+use Prim.Native.Nat.{◌≤◌, ◌-◌}
+use lib.ListN.{length, take}
 use Rattle.records.specs.Table.{pair_of_waiting}
-use Rattle.records.specs.ListLaws.{store_next, store_end}
 use Rattle.records.proofs.checks.figures.Given as goal
 
 abbrev pub invariant-loop-i : goal.invariant-loop-i

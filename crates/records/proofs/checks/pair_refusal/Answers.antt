@@ -8,7 +8,7 @@ use lib.Signed.{le_z}
 use lib.Seq.{length-take-le}
 use mir.Syntax.{w32}
 use mir.Val.{to_z, of_z}
-use borrow.Author.Tests.{le-leb, lt-leb, not-true, not-false}
+use borrow.Author.Tests.{le-leb, lt-leb}
 use borrow.Author.Rules.{rules}
 use Rattle.charts.specs.Tests.{if◌then◌else◌}
 use Rattle.charts.specs.SignedLocals.{arg, lit, le_flag}

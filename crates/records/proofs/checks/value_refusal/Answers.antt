@@ -1,7 +1,6 @@
 -- `checks::value_refusal` meets its contract.
 use mathlib.Core.Path.{sym, ap}
 use Prim.Native.Nat.{ℕ}
-use borrow.Author.Rules.{rules}
 use Rattle.charts.specs.Tests.{if◌then◌else◌}
 use Rattle.records.specs.declared.state.Calibration.{Calibration}
 use Rattle.records.specs.Table.{value_refusal, in_force}

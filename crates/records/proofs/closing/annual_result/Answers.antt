@@ -1,6 +1,5 @@
 -- `closing::annual_result` meets its contract.
 use mathlib.Core.Path.{sym, ap, subst, ◌∙◌}
-use borrow.Author.Rules.{rules}
 use Rattle.records.specs.Soundness.{CalibrationSound}
 use Rattle.records.specs.State.{facts_of}
 use Rattle.records.specs.Table.{annual_by}

@@ -7,14 +7,14 @@ use lib.Dec.{eqb}
 use lib.ListN.{length, length-take}
 use mir.Syntax.{w32}
 use mir.Val.{to_z, of_z}
-use borrow.Author.Tests.{eq-eqb, ne_eqb, not-true, not-false}
+use borrow.Author.Tests.{eq-eqb, ne_eqb}
 use borrow.Author.Rules.{rules}
 use Rattle.charts.specs.Tests.{if◌then◌else◌}
 use Rattle.calibration.specs.Pairs.{ZRanged}
 use Rattle.calibration.specs.declared.Fitted.{Fitted}
 use Rattle.records.specs.Record.{Record, z_of}
 use Rattle.records.specs.Table.{Facts, calibration_of, calibration_refusal, stores_fit}
-use Rattle.records.specs.TableLaws.{calibration_count}
+use Rattle.records.proofs.TableLaws.{calibration_count}
 use Rattle.records.specs.State.{facts_of}
 use Rattle.records.proofs.SignedLaws.{given}
 use Rattle.records.proofs.closing.calibration_refusal.Goals as goal

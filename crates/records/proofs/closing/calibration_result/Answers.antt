@@ -9,15 +9,14 @@ use lib.Seq.{length-take-le}
 use mir.Syntax.{w32}
 use mir.Val.{to_z, of_z}
 use mir.Facts.{to_z-of_z}
-use borrow.Author.Tests.{not-true, not-false}
 use borrow.Author.Rules.{rules}
 use Rattle.charts.specs.Tests.{if◌then◌else◌}
 use Rattle.calibration.specs.Pairs.{AllRanged}
 use Rattle.calibration.specs.Calibration.{count_fits, fit_of, refused_fit}
-use Rattle.calibration.specs.VerdictLaws.{count_above}
+use Rattle.calibration.proofs.VerdictLaws.{count_above}
 use Rattle.records.specs.Table.{calibration_of, days_fit, pair_of_waiting}
 use Rattle.records.specs.ListLaws.{map_take}
-use Rattle.records.specs.SoundnessLaws.{pairs_ranged}
+use Rattle.records.proofs.SoundnessLaws.{pairs_ranged}
 use Rattle.records.specs.State.{facts_of}
 use Rattle.records.specs.declared.state.Waiting.{Waiting}
 use Rattle.records.proofs.StateLaws.{thirty}

@@ -12,7 +12,7 @@ use Rattle.calibration.specs.PairLaws.{between_fits}
 use Rattle.records.specs.Kinds.{line_of}
 use Rattle.records.specs.Table.{pair_of_waiting}
 use Rattle.records.specs.ListLaws.{map_take}
-use Rattle.records.specs.SoundnessLaws.{pairs_ranged}
+use Rattle.records.proofs.SoundnessLaws.{pairs_ranged}
 use Rattle.records.proofs.closing.test_with.Goals as goal
 use Rattle.records.proofs.closing.test_with.Goals.{After-figures, Start}
 

@@ -1,9 +1,6 @@
 -- `soundness::pairs_sound` meets its contract. The invariant: the pairs from i on are sound exactly if all are.
-use mathlib.Core.Path.{◌≡◌, refl, sym, ap, ◌∙◌}
-use Prim.Native.Nat.{◌≤◌, ◌-◌}
+use mathlib.Core.Path.{refl, sym, ap, ◌∙◌}
 use native.Mathlib.Omega.{arith}
-use lib.ListN.{take, drop}
-use borrow.Author.Tests.{not-true, not-false}
 use Rattle.records.specs.Soundness.{all_sound_of}
 use Rattle.records.specs.ListLaws.{from_end}
 use Rattle.records.proofs.PairLoops.{sound_turn, sound_no}

@@ -1,12 +1,8 @@
 -- `soundness::pairs_sound` meets its contract. The invariant: the pairs from i on are sound exactly if all are.
-use mathlib.Core.Path.{◌≡◌, refl, sym, ap, ◌∙◌}
+use mathlib.Core.Path.{◌≡◌}
 use Prim.Native.Nat.{◌≤◌, ◌-◌}
-use native.Mathlib.Omega.{arith}
 use lib.ListN.{take, drop}
-use borrow.Author.Tests.{not-true, not-false}
 use Rattle.records.specs.Soundness.{all_sound_of}
-use Rattle.records.specs.ListLaws.{from_end}
-use Rattle.records.proofs.PairLoops.{sound_turn, sound_no}
 use Rattle.records.proofs.soundness.pairs_sound.Given as goal
 
 abbrev pub invariant-loop-i : goal.invariant-loop-i

@@ -2,7 +2,7 @@
 use borrow.Author.Rules.{rules}
 use borrow.Author.Tests.{ne_eqb}
 use mathlib.Core.Path.{◌≡◌, refl, sym, ap, subst, ◌∙◌}
-use mathlib.Core.Bool.{Bool, true, false, not}
+use mathlib.Core.Bool.{Bool, false, not}
 use Prim.Native.Nat.{ℕ}
 use lib.Dec.{T, eqb}
 use Rattle.records.specs.Record.{Record, kind}
@@ -11,7 +11,7 @@ use Rattle.records.specs.Kinds.{sets}
 use Rattle.records.specs.Table.{Facts, kind_refusal}
 use Rattle.records.specs.State.{facts_of}
 use Rattle.records.specs.Soundness.{SettingSound}
-use Rattle.records.specs.SoundnessLaws.{setting_known}
+use Rattle.records.proofs.SoundnessLaws.{setting_known}
 use Rattle.records.proofs.step.kind_refusal.Goals as goal
 use Rattle.records.proofs.step.kind_refusal.Lts as lts
 use Rattle.records.proofs.step.kind_refusal.Tie as tie

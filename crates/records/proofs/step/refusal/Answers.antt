@@ -1,9 +1,7 @@
 -- `step::refusal` meets its contract: the tests in the table's order.
 use borrow.Author.Rules.{rules}
-use borrow.Author.Tests.{not-true, not-false}
 use mathlib.Core.Path.{◌≡◌, refl, sym, ◌∙◌}
 use mathlib.Core.Bool.{Bool, true, false, not}
-use Prim.Native.Nat.{ℕ}
 use Rattle.charts.specs.Tests.{if◌then◌else◌}
 use Rattle.records.specs.Record.{Record, formed_of, ranged_of}
 use Rattle.records.specs.Table.{Facts, misplaced, untimely, kind_refusal, refusal_in}

@@ -3,12 +3,11 @@ use borrow.Author.Rules.{rules}
 use borrow.Author.Tests.{eq-eqb, ne_eqb}
 use mathlib.Core.Path.{◌≡◌, sym, ap, ◌∙◌}
 use Prim.Native.Nat.{ℕ}
-use Rattle.charts.specs.Tests.{if◌then◌else◌, if_yes, if_no}
+use Rattle.charts.specs.Tests.{if_yes, if_no}
 use Rattle.records.specs.Record.{Record}
 use Rattle.records.specs.Table.{refusal_in}
 use Rattle.records.specs.State.{facts_of, applied_to, step_of}
 use Rattle.records.specs.declared.state.State.{State}
-use Rattle.records.specs.declared.state.Stepped.{Stepped}
 use Rattle.records.proofs.step.step.Goals as goal
 
 -- the definition by its test

@@ -19,14 +19,14 @@ use Rattle.records.specs.Table.{Facts, calibration_of, annual_of, pass_mark, tes
 use Rattle.records.specs.State.{facts_of}
 use Rattle.records.specs.Steps.{Ran}
 use Rattle.records.specs.Soundness.{SettingSound, BegunSound, Sound}
-use Rattle.records.specs.SoundnessLaws.{weaken}
+use Rattle.records.proofs.SoundnessLaws.{weaken}
 use Rattle.records.specs.declared.state.State.{State}
 use Rattle.file.specs.Blocks.{told_refusal}
 use Rattle.file.specs.Taking.{records, records_fit}
 use Rattle.file.specs.Calls.{opened, ready_of}
 use Rattle.file.specs.FitLaws.{opened_pairs, opened_ready}
 use Rattle.file.specs.FitLaws.{ready_fit, within_none, within_ran}
-use Rattle.file.specs.CallsLaws.{records_length}
+use Rattle.file.proofs.CallsLaws.{records_length}
 use Rattle.file.specs.Answered.{ran_of}
 use Rattle.file.specs.Closings.{head_of, figures_of, kept, first_rows, z_fits, unsigned32, unsigned64, bytes64, calibration_record, annual_record, closing_of, closing_refusal, made, closed, ran_before, make_of, made_bytes}
 use Rattle.file.specs.declared.making.Made.{Made}

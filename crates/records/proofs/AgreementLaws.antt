@@ -1,5 +1,5 @@
 -- A state that agrees with a history refuses a record as the history does, and otherwise agrees, after it, with the longer history.
-use Rattle.std.specs.Prelude.{◌≡◌, refl, Bool, not, ◌&&◌, ◌||◌, List, [], ◌∷◌, ◌++◌, map, ℕ, zero, suc, ◌+◌, ◌-◌, ◌≤◌, ◌<◌, T, leb, ℤ, length, take, set, replicate}
+use Rattle.std.specs.Prelude.{◌≡◌, refl, Bool, not, ◌&&◌, ◌||◌, List, [], ◌∷◌, ◌++◌, map, ℕ, suc, ◌+◌, ◌-◌, ◌≤◌, ◌<◌, T, leb, ℤ, length, take, set, replicate}
 use Rattle.std.proofs.Math.Path.{sym}
 use Rattle.std.proofs.Common.{ap, ◌∙◌, append_assoc, arith, add-one, length-append, take_at}
 use Rattle.std.proofs.Math.Bool.{true, false}
@@ -13,15 +13,13 @@ use Rattle.charts.proofs.ChartLaws.{Reading, differences, after_readings, charte
 use Rattle.charts.specs.declared.Chart.{Chart}
 use Rattle.records.specs.Lists.{those_since}
 use Rattle.records.specs.Record.{Record, kind, mark, minute, setting_of, difference_of, waiting_of, function_of, formed_of, ranged_of}
-use Rattle.records.specs.Kinds.{Point, no_setting, at_zero, at_span, number, reads, resets, sets, pairs, empties, calibrates, passes, fails, deviation_of, week_of, outside_by, exceeds}
+use Rattle.records.specs.Kinds.{Point, at_zero, at_span, number, reads, resets, sets, pairs, empties, calibrates, fails, deviation_of}
 use Rattle.records.specs.Table.{Facts, misplaced, untimely, kind_refusal, reading_refusal, chart_refusal, pair_refusal, refusal_in}
-use Rattle.records.specs.History.{Entry, History, on, begun_in, last_minute, setting_in, started_in, differences_in, pending_in, function_in, last_week, total_in, outside_in, week_exceeds, weeks_over, turns, week_calls, calls_in, oldest, first_call, facts_in, refusal_of}
+use Rattle.records.specs.History.{Entry, History, on, begun_in, last_minute, setting_in, started_in, differences_in, pending_in, function_in, total_in, outside_in, weeks_over, week_calls, calls_in, oldest, first_call, facts_in, refusal_of}
 use Rattle.records.specs.State.{no_pair, no_pairs, initial_of, facts_of, chart_after, turns_from, judges, raised_of, applied_to}
 use Rattle.records.specs.WeekLaws.{Ordered, total_step, outside_step, weeks_step}
 use Rattle.records.specs.Agreement.{Taken, reading_of, readings_since, chart_in, padded, demand_of, Agrees}
-use Rattle.records.specs.declared.state.Setting.{Setting}
 use Rattle.records.specs.declared.state.Waiting.{Waiting}
-use Rattle.records.specs.declared.state.Calibration.{Calibration}
 use Rattle.records.specs.declared.state.Calibration.TheVariants.{InForce}
 use Rattle.records.specs.declared.state.Demand.{Demand}
 use Rattle.records.specs.declared.state.Demand.TheVariants.{Quiet, Since}

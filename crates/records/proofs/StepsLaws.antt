@@ -1,16 +1,16 @@
 -- A state in step with a history stays so over any list of records, and both stop at the same record for the same reason.
 use Rattle.std.specs.Prelude.{◌≡◌, refl, Bool, true, false, List, [], ◌∷◌, ℕ, suc, ◌+◌, ◌≤◌, eqb, T, length}
-use Rattle.std.proofs.Common.{sym, ap, ◌∙◌, arith, eqb→eq}
+use Rattle.std.proofs.Common.{ap, ◌∙◌, arith, eqb→eq}
 use Rattle.charts.specs.Tests.{if◌then◌else◌}
 use Rattle.records.specs.Record.{Record}
 use Rattle.records.specs.History.{Entry, History, refusal_of}
 use Rattle.records.specs.State.{facts_of, applied_to}
 use Rattle.records.specs.Table.{refusal_in}
 use Rattle.records.specs.Soundness.{Sound}
-use Rattle.records.specs.SoundnessLaws.{weaken, applied_sound, applied_places}
+use Rattle.records.proofs.SoundnessLaws.{weaken, applied_sound, applied_places}
 use Rattle.records.specs.Agreement.{Taken, Agrees}
-use Rattle.records.specs.AgreementLaws.{refuses_alike, agrees_after}
-use Rattle.records.specs.Steps.{Rules, Ran, ran_from, history_rules, state_rules}
+use Rattle.records.proofs.AgreementLaws.{refuses_alike, agrees_after}
+use Rattle.records.specs.Steps.{Ran, ran_from, history_rules, state_rules}
 use Rattle.records.specs.declared.state.State.{State}
 
 -- in step: the history's records were all accepted, the state agrees with it, and its counts are within bounds

@@ -1,5 +1,5 @@
 -- A fresh state is sound, and an accepted record keeps a state so.
-use Rattle.std.specs.Prelude.{◌≡◌, refl, Bool, true, false, not, ◌&&◌, List, [], ◌∷◌, map, ℕ, zero, suc, ◌+◌, ◌≤◌, ◌<◌, eqb, ℤ, set}
+use Rattle.std.specs.Prelude.{◌≡◌, refl, Bool, true, false, not, ◌&&◌, List, [], ◌∷◌, map, ℕ, zero, suc, ◌+◌, ◌≤◌, ◌<◌, eqb, set}
 use Rattle.std.proofs.Common.{subst, ◌∙◌, arith, add-one, length-set}
 use Rattle.std.proofs.Math.Dec.{T}
 use Rattle.std.proofs.Math.ListN.{length, take, length-take, length-map}
@@ -8,17 +8,15 @@ use Rattle.charts.specs.Tests.{if◌then◌else◌, if_all}
 use Rattle.charts.specs.Soundness as C
 use Rattle.charts.specs.SoundnessLaws.{blank_sound, reset_sound, applied_sound as reading-sound}
 use Rattle.charts.specs.declared.Chart.{Chart}
-use Rattle.calibration.specs.Pairs.{AllRanged, RequirementsRanged, ZRanged}
-use Rattle.calibration.specs.Calibration.{LineRanged, fit_of}
-use Rattle.calibration.specs.FitRange.{fitted_ranged}
+use Rattle.calibration.specs.Pairs.{AllRanged}
+use Rattle.calibration.specs.Calibration.{LineRanged}
+use Rattle.calibration.proofs.FitRange.{fitted_ranged}
 use Rattle.calibration.specs.PairLaws.{between_abs}
-use Rattle.calibration.specs.declared.Pair.{Pair}
-use Rattle.calibration.specs.declared.Requirements.{Requirements}
 use Rattle.records.specs.Record.{Record, kind, mark, minute, setting_ranged, setting_of, difference_of, waiting_of, function_of, z_of}
 use Rattle.records.specs.RecordLaws.{WaitingFields, setting_fields, setting_ranged_lem, reading_fields, reading_ranged_lem, waiting_fields, waiting_ranged_lem, z_field, z_ranged}
 use Rattle.records.specs.Kinds.{Point, at_zero, at_span, deviation_of, reads, resets, sets, pairs, empties, calibrates, passes, counts, exceeds, outside_by, line_of}
 use Rattle.records.specs.Table.{misplaced, pair_of_waiting, refusal_in}
-use Rattle.records.specs.TableLaws.{Accepted, accepted, reading_passed, zero_open, span_open, pair_passed, pair_passes, calibration_passed, calibration_passes, stored_line}
+use Rattle.records.proofs.TableLaws.{Accepted, accepted, reading_passed, zero_open, span_open, pair_passed, pair_passes, calibration_passed, calibration_passes, stored_line}
 use Rattle.records.specs.State.{no_pairs, initial_of, facts_of, chart_after, turns_from, applied_to}
 use Rattle.records.specs.Soundness.{SettingSound, WaitingSound, AllSound, CalibrationSound, BegunSound, Sound}
 use Rattle.records.specs.declared.state.Setting.{Setting}

@@ -1,18 +1,17 @@
 -- What a state answers on alarms and usability is what the history says, where the two agree.
-use Rattle.std.specs.Prelude.{◌≡◌, refl, Bool, true, false, not, ◌&&◌, List, [], map, ℕ, ◌-◌, ◌≤◌, T, leb}
-use Rattle.std.proofs.Common.{sym, ap, ◌∙◌, arith}
+use Rattle.std.specs.Prelude.{◌≡◌, refl, Bool, true, false, List, [], map, ℕ, ◌-◌, ◌≤◌}
+use Rattle.std.proofs.Common.{arith}
 use Rattle.std.proofs.Math.Option.{Option, none, some}
 use Rattle.charts.specs.Tests.{if◌then◌else◌, Answers, answers_not, answers_and, answers_le, answers_as}
 use Rattle.charts.specs.Charts.{blank, reset_of, alarms_of}
 use Rattle.charts.specs.Runs.{Alarm, rising, falling, precision, Stands}
 use Rattle.charts.proofs.ChartLaws.{Reading, after_readings, alarm_of, alarms_after, blank_answers}
 use Rattle.charts.specs.declared.Alarms.{Alarms}
-use Rattle.charts.specs.declared.Chart.{Chart}
 use Rattle.records.specs.Kinds.{Point, at_zero, at_span, deviation_of}
 use Rattle.records.specs.Record.{difference_of}
 use Rattle.records.specs.History.{History, on, last_minute, setting_in, started_in, differences_in, function_in, first_call, AlarmStands, minute_of, Recent, Usable}
 use Rattle.records.specs.Agreement.{reading_of, readings_since, chart_in, demand_of, Agrees}
-use Rattle.records.specs.AgreementLaws.{differences_of}
+use Rattle.records.proofs.AgreementLaws.{differences_of}
 use Rattle.records.specs.Answers.{zero_alarms, span_alarms, silent, young_of, recent_of, usable_of}
 use Rattle.records.specs.declared.state.Calibration.{Calibration}
 use Rattle.records.specs.declared.state.Calibration.TheVariants.{Absent, InForce}

@@ -1,13 +1,13 @@
 -- A fit that is not refused gives a function in range.
 use Rattle.std.specs.Prelude.{◌≡◌, refl, Bool, true, false, not, List, ℕ, ◌≤◌, ◌<◌, T, ℤ, pos, length}
-use Rattle.std.proofs.Common.{sym, arith}
+use Rattle.std.proofs.Common.{arith}
 use Rattle.std.specs.Int.Signed.{le_z}
-use Rattle.charts.specs.Tests.{if◌then◌else◌, if_all, Answers}
-use Rattle.calibration.specs.Pairs.{Between, between_answers, AllRanged, RequirementsRanged, ZRanged}
-use Rattle.calibration.specs.Calibration.{LineRanged, count_fits, deviations_of, divisor_of, fit_from, fit_of, flat_of, intercept_of, line_fits, refused_fit, slope_of, slope_ranged_of, some_beyond, sums_of}
-use Rattle.calibration.specs.SumLaws.{sums_ranged}
-use Rattle.calibration.specs.FitLaws.{line_ranged}
-use Rattle.calibration.specs.VerdictLaws.{count_above}
+use Rattle.charts.specs.Tests.{if_all}
+use Rattle.calibration.specs.Pairs.{between_answers, AllRanged, RequirementsRanged, ZRanged}
+use Rattle.calibration.specs.Calibration.{LineRanged, count_fits, divisor_of, fit_from, fit_of, flat_of, intercept_of, line_fits, refused_fit, slope_of, slope_ranged_of, some_beyond, sums_of}
+use Rattle.calibration.proofs.SumLaws.{sums_ranged}
+use Rattle.calibration.proofs.FitLaws.{line_ranged}
+use Rattle.calibration.proofs.VerdictLaws.{count_above}
 use Rattle.calibration.specs.declared.Pair.{Pair}
 use Rattle.calibration.specs.declared.Requirements.{Requirements}
 use Rattle.calibration.specs.declared.Line.{Line}

@@ -10,8 +10,8 @@ use Rattle.calibration.specs.Calibration.{far_of, some_beyond, residual_of, devi
 use Rattle.calibration.specs.Annual.{annual_count_fits, annual_k_of, annual_varied_of, function_of, refused_test, test_of}
 use Rattle.calibration.specs.CodeLaws.{dispersion_of}
 use Rattle.calibration.specs.DispersionLaws.{q_not_negative}
-use Rattle.calibration.specs.FitLaws.{product_size}
-use Rattle.calibration.specs.ResidualLaws.{residuals_ranged}
+use Rattle.calibration.proofs.FitLaws.{product_size}
+use Rattle.calibration.proofs.ResidualLaws.{residuals_ranged}
 use Rattle.calibration.specs.declared.Line.{Line}
 use Rattle.calibration.specs.declared.Pair.{Pair}
 use Rattle.calibration.specs.declared.Requirements.{Requirements}

@@ -12,9 +12,9 @@ use Rattle.charts.specs.Tests.{if◌then◌else◌, if_yes, if_all}
 use Rattle.charts.specs.Integers.{le_le_z, abs_sfits}
 use Rattle.calibration.specs.Pairs.{RequirementsRanged, ZRanged, z_ranged_of, between_answers}
 use Rattle.calibration.specs.PairLaws.{between_fits}
-use Rattle.calibration.specs.FitRange.{T_true, fitted_ranged}
-use Rattle.calibration.specs.ResidualLaws.{top_bound, residuals_ranged}
-use Rattle.calibration.specs.VerdictLaws.{count_above}
+use Rattle.calibration.proofs.FitRange.{T_true, fitted_ranged}
+use Rattle.calibration.proofs.ResidualLaws.{top_bound, residuals_ranged}
+use Rattle.calibration.proofs.VerdictLaws.{count_above}
 use Rattle.calibration.specs.Calibration.{LineRanged, count_fits, divisor_of, fit_from, fit_of, flat_of, line_fits, residuals_of, slope_of, slope_ranged_of, some_beyond, sums_of, top_of}
 use Rattle.calibration.specs.declared.Fitted.{Fitted}
 use Rattle.calibration.specs.declared.Tested.{Tested}
@@ -26,17 +26,17 @@ use Rattle.records.specs.Bytes.{le16, le32, all_zero, bytes16, bytes32}
 use Rattle.records.specs.Record.{Record, kind, mark, minute, signed32, signed64, field, long_field, formed_of, plain_of, mark_limit, fields_end, ranged_of, z_of}
 use Rattle.records.specs.Kinds.{sets}
 use Rattle.records.specs.Table.{Facts, misplaced, untimely, days_fit, pair_of_waiting, calibration_of, annual_of, pass_mark, test_mark, sameℤ, stores_fit, stores_test, calibration_refusal, annual_refusal, kind_refusal, refusal_in}
-use Rattle.records.specs.TableLaws.{calibration_count}
+use Rattle.records.proofs.TableLaws.{calibration_count}
 use Rattle.records.specs.State.{facts_of}
 use Rattle.records.specs.Soundness.{SettingSound, Sound}
-use Rattle.records.specs.SoundnessLaws.{pairs_ranged}
+use Rattle.records.proofs.SoundnessLaws.{pairs_ranged}
 use Rattle.records.specs.declared.state.Waiting.{Waiting}
 use Rattle.records.specs.declared.state.State.{State}
 use Rattle.file.specs.Calls.{opened}
 use Rattle.file.specs.Answered.{ran_of}
 use Rattle.file.specs.FitLaws.{fit_size}
 use Rattle.file.specs.Closings.{first_rows, unsigned32, unsigned64, bytes64, calibration_record, annual_record, closing_of, closing_refusal, make_of, made_bytes}
-use Rattle.file.specs.ClosingLaws.{first_passed, passed_begun, passed_time, passed_z, calibration_row, annual_row, calibration_bytes, annual_bytes, z_in_range, begun_setting, before_sound, bytes_made, made_passes}
+use Rattle.file.proofs.ClosingLaws.{first_passed, passed_begun, passed_time, passed_z, calibration_row, annual_row, calibration_bytes, annual_bytes, z_in_range, begun_setting, before_sound, bytes_made, made_passes}
 
 -- ---- numbers in bytes, read back
 

@@ -8,16 +8,16 @@ use Rattle.charts.specs.Tests.{if◌then◌else◌, if_no}
 use Rattle.charts.specs.Rounding.{edition_known}
 use Rattle.calibration.specs.Pairs.{AllRanged, RequirementsRanged, ZRanged}
 use Rattle.calibration.specs.Calibration.{count_fits, refused_fit, fit_of}
-use Rattle.calibration.specs.VerdictLaws.{count_unfit}
+use Rattle.calibration.proofs.VerdictLaws.{count_unfit}
 use Rattle.calibration.specs.LentList.{fit_list_of}
-use Rattle.calibration.specs.LentListLaws.{list_fits}
+use Rattle.calibration.proofs.LentListLaws.{list_fits}
 use Rattle.calibration.specs.declared.Basis.{Basis}
 use Rattle.calibration.specs.declared.Fitted.{Fitted}
 use Rattle.calibration.specs.declared.Pair.{Pair}
 use Rattle.records.specs.Table.{Facts, days_fit, pair_of_waiting, calibration_of}
 use Rattle.records.specs.State.{facts_of}
 use Rattle.records.specs.Soundness.{Sound, SettingSound}
-use Rattle.records.specs.SoundnessLaws.{pairs_ranged}
+use Rattle.records.proofs.SoundnessLaws.{pairs_ranged}
 use Rattle.records.specs.declared.state.State.{State}
 
 -- 21 stops the closing: the count is good, and days or span are not

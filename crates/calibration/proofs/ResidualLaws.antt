@@ -5,14 +5,14 @@ use Rattle.std.proofs.Common.{subst, ◌∙◌, true≢false, arith}
 use mathlib.Core.List.{List, [], ◌∷◌, foldl, map}
 use Rattle.std.proofs.lemmas.Bool.{not-false}
 use Rattle.std.proofs.Math.IntN.{+ℤ_assoc, +ℤ_idl, +ℤ_idr}
-use Rattle.charts.specs.Tests.{if◌then◌else◌, if_all}
+use Rattle.charts.specs.Tests.{if_all}
 use Rattle.charts.specs.Integers.{ints, abs_sum, abs_diff}
 use Rattle.charts.proofs.RoundingLaws.{near_bound}
 use Rattle.calibration.specs.Pairs.{Between, between_of, between_answers}
 use Rattle.calibration.specs.PairLaws.{between_abs}
 use Rattle.calibration.specs.Calibration.{measured_of, c_of, far_of, beyond_of, some_beyond, higher_of, share_of, top_of, span_from, span_of, total, squares, deviations_of, residuals_of}
 use Rattle.calibration.specs.CodeLaws.{with_residual_of}
-use Rattle.calibration.specs.FitLaws.{product_size}
+use Rattle.calibration.proofs.FitLaws.{product_size}
 use Rattle.calibration.specs.ListLaws.{member, unset}
 use Rattle.calibration.specs.SpanLaws.{higher_has, higher_same, span_high}
 use Rattle.calibration.specs.declared.Line.{Line}

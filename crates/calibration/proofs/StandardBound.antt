@@ -1,6 +1,6 @@
 -- Paper 02, C-12: how far four roundings lead away from formula (20) worked out exactly, at most 20 hundredths of mg/m³. The argument uses nothing of the
 -- rounding but the half bound, and so is the same for both editions.
-use Rattle.std.specs.Prelude.{◌≡◌, ℕ, ◌+◌, ◌*◌, ◌≤◌, ◌<◌, ℤ, pos, nat_abs, ◌+ℤ◌, ◌-ℤ◌, ◌*ℤ◌, ◌<ℤ◌}
+use Rattle.std.specs.Prelude.{◌≡◌, ℕ, ◌+◌, ◌*◌, ◌≤◌, ℤ, pos, nat_abs, ◌+ℤ◌, ◌-ℤ◌, ◌*ℤ◌, ◌<ℤ◌}
 use Rattle.std.proofs.Common.{sym, ap, ◌∙◌, arith, mul-le-mul_left, mul-le-mul_right, mul_comm, mul_assoc, add-mul}
 use Rattle.std.proofs.Math.IntN.{*ℤ_comm}
 use Rattle.charts.proofs.RoundingLaws.{near_half_bound}

@@ -1,0 +1,9 @@
+pub mod VerdictLaws
+pub mod FitLaws
+pub mod FitRange
+pub mod ConditionLaws
+pub mod Cases
+pub mod StandardBound
+pub mod ResidualLaws
+pub mod LentListLaws
+pub mod SumLaws
