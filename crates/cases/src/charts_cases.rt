@@ -2,6 +2,7 @@
 // sums P, M and V with their counts, the adjustments to be taken off and put on, and the rising, falling and precision alarm.
 use crate::print;
 use charts::{Chart, Sum};
+use std::io;
 
 // A reading, where the chart and the difference are in the range that `apply` asks for; else the chart as it is.
 fn applied(e: u8, c: Chart, s: u16, d: i32) -> Chart {
@@ -17,48 +18,56 @@ fn applied(e: u8, c: Chart, s: u16, d: i32) -> Chart {
     c.apply(e, s, d)
 }
 
-fn show_sum(name: &[u8], u: Sum) {
-    print::field(name, u.value);
-    print::text(b" ");
-    print::number(u.count as u64);
+fn show_sum(rt: &impl Print, name: &[u8], u: Sum) -> io::Result<()> {
+    print::field(rt, name, u.value)?;
+    print::text(rt, b" ")?;
+    print::number(rt, u.count as u64)
 }
 
-pub fn show(name: &[u8], s: u16, c: Chart) {
-    print::text(name);
-    print::field(b"s", s as u64);
-    print::signed_field(b"d", print::wide(c.last));
-    show_sum(b"P", c.rising);
-    show_sum(b"M", c.falling);
-    show_sum(b"V", c.precision);
-    print::field(b"off", c.downward);
-    print::field(b"on", c.upward);
+pub fn show(rt: &impl Print, name: &[u8], s: u16, c: Chart) -> io::Result<()> {
+    print::text(rt, name)?;
+    print::field(rt, b"s", s as u64)?;
+    print::signed_field(rt, b"d", print::wide(c.last))?;
+    show_sum(rt, b"P", c.rising)?;
+    show_sum(rt, b"M", c.falling)?;
+    show_sum(rt, b"V", c.precision)?;
+    print::field(rt, b"off", c.downward)?;
+    print::field(rt, b"on", c.upward)?;
     let a = c.alarms(s);
-    print::text(b" alarms ");
-    print::flag(a.rising);
-    print::flag(a.falling);
-    print::flag(a.precision);
-    print::end_line();
+    print::text(rt, b" alarms ")?;
+    print::flag(rt, a.rising)?;
+    print::flag(rt, a.falling)?;
+    print::flag(rt, a.precision)?;
+    print::end_line(rt)
 }
 
 // Applies the differences one after the other, with a line for each.
-fn continued(e: u8, name: &[u8], begin: Chart, s: u16, ds: &[i32]) -> Chart {
+fn continued(
+    rt: &impl Print,
+    e: u8,
+    name: &[u8],
+    begin: Chart,
+    s: u16,
+    ds: &[i32],
+) -> io::Result<Chart> {
     let mut c = begin;
     let mut i = 0;
     while i < ds.len() {
         c = applied(e, c, s, ds[i]);
-        show(name, s, c);
+        show(rt, name, s, c)?;
         i += 1;
     }
-    c
+    Ok(c)
 }
 
 // The same from a reset.
-fn series(e: u8, name: &[u8], s: u16, ds: &[i32]) {
-    continued(e, name, fresh(), s, ds);
+fn series(rt: &impl Print, e: u8, name: &[u8], s: u16, ds: &[i32]) -> io::Result<()> {
+    continued(rt, e, name, fresh(), s, ds)?;
+    Ok(())
 }
 
 // Fills a chart with 50,000 pairs of readings at s 1, and tries one more.
-fn full(e: u8, name: &[u8], first: i32, second: i32) {
+fn full(rt: &impl Print, e: u8, name: &[u8], first: i32, second: i32) -> io::Result<()> {
     let mut c = fresh();
     let mut i: u32 = 0;
     while i < 50000 {
@@ -66,12 +75,19 @@ fn full(e: u8, name: &[u8], first: i32, second: i32) {
         c = applied(e, c, 1, second);
         i += 1;
     }
-    show(name, 1, c);
-    show(name, 1, applied(e, c, 1, first));
+    show(rt, name, 1, c)?;
+    show(rt, name, 1, applied(e, c, 1, first))
 }
 
 // Whether a chart is sound with these figures, the sum being P.
-fn show_sound(name: &[u8], readings: u32, last: i32, value: u64, count: u32) {
+fn show_sound(
+    rt: &impl Print,
+    name: &[u8],
+    readings: u32,
+    last: i32,
+    value: u64,
+    count: u32,
+) -> io::Result<()> {
     let rising = Sum { value, count };
     let c = Chart {
         readings,
@@ -79,11 +95,11 @@ fn show_sound(name: &[u8], readings: u32, last: i32, value: u64, count: u32) {
         rising,
         ..fresh()
     };
-    print::text(b"sound ");
-    print::text(name);
-    print::text(b" ");
-    print::flag(c.sound());
-    print::end_line();
+    print::text(rt, b"sound ")?;
+    print::text(rt, name)?;
+    print::text(rt, b" ")?;
+    print::flag(rt, c.sound())?;
+    print::end_line(rt)
 }
 
 fn fresh() -> Chart {
@@ -91,88 +107,90 @@ fn fresh() -> Chart {
 }
 
 // The paper's cases 1 to 6, and its drift cases with the sign turned.
-fn paper(e: u8) {
-    series(e, b"case-1", 1000, &[3351]);
-    series(e, b"case-2", 1000, &[3352]);
-    series(e, b"case-3-4", 44, &[60, 60, 60, 60]);
-    series(e, b"case-5", 2, &[8]);
-    series(e, b"case-6", 2, &[9]);
-    series(e, b"turned-1", 1000, &[-3351]);
-    series(e, b"turned-2", 1000, &[-3352]);
-    series(e, b"turned-3-4", 44, &[-60, -60, -60, -60]);
+fn paper(rt: &impl Print, e: u8) -> io::Result<()> {
+    series(rt, e, b"case-1", 1000, &[3351])?;
+    series(rt, e, b"case-2", 1000, &[3352])?;
+    series(rt, e, b"case-3-4", 44, &[60, 60, 60, 60])?;
+    series(rt, e, b"case-5", 2, &[8])?;
+    series(rt, e, b"case-6", 2, &[9])?;
+    series(rt, e, b"turned-1", 1000, &[-3351])?;
+    series(rt, e, b"turned-2", 1000, &[-3352])?;
+    series(rt, e, b"turned-3-4", 44, &[-60, -60, -60, -60])
 }
 
 // Both signs in one series. A sum of exactly 0 has a count of 0: P at once, and after a reading above; M; V after a step of 26
 // and one of 8. V at its limit, 138 s², and the next sum that two steps can make over it.
-fn sums(e: u8) {
-    series(e, b"signs", 44, &[100, -100, 150, -120, 30, -30, 0]);
-    series(e, b"zero-P", 1000, &[501, 1002, 0]);
-    series(e, b"zero-M", 1000, &[-501, -1002, 0]);
-    series(e, b"zero-V", 10, &[26, 34]);
-    series(e, b"limit-V", 5, &[23, 24]);
-    series(e, b"over-V", 5, &[23, 25]);
+fn sums(rt: &impl Print, e: u8) -> io::Result<()> {
+    series(rt, e, b"signs", 44, &[100, -100, 150, -120, 30, -30, 0])?;
+    series(rt, e, b"zero-P", 1000, &[501, 1002, 0])?;
+    series(rt, e, b"zero-M", 1000, &[-501, -1002, 0])?;
+    series(rt, e, b"zero-V", 10, &[26, 34])?;
+    series(rt, e, b"limit-V", 5, &[23, 24])?;
+    series(rt, e, b"over-V", 5, &[23, 25])
 }
 
 // Both drift alarms at once, with an adjustment for each; the next reading ends the rising one, and its adjustment is 0 again.
 // Then adjustments that lie half way between two whole numbers: 3.5 and 10.5.
-fn adjustments(e: u8) {
-    series(e, b"both", 10, &[80, -40, 0]);
-    series(e, b"half", 1, &[5]);
-    series(e, b"half", 1, &[-5]);
-    series(e, b"half", 1, &[15]);
-    series(e, b"half", 1, &[-15]);
+fn adjustments(rt: &impl Print, e: u8) -> io::Result<()> {
+    series(rt, e, b"both", 10, &[80, -40, 0])?;
+    series(rt, e, b"half", 1, &[5])?;
+    series(rt, e, b"half", 1, &[-5])?;
+    series(rt, e, b"half", 1, &[15])?;
+    series(rt, e, b"half", 1, &[-15])
 }
 
 // The first step after a reset is from 0: the last line has the sums of case 5.
-fn reset_in_the_middle(e: u8) {
-    let c = continued(e, b"before", fresh(), 2, &[100, 108]);
+fn reset_in_the_middle(rt: &impl Print, e: u8) -> io::Result<()> {
+    let c = continued(rt, e, b"before", fresh(), 2, &[100, 108])?;
     let r = c.reset();
-    show(b"reset", 2, r);
-    continued(e, b"after", r, 2, &[8]);
+    show(rt, b"reset", 2, r)?;
+    continued(rt, e, b"after", r, 2, &[8])?;
+    Ok(())
 }
 
 // A chart that is not started shows no alarm, whatever its sums.
-fn not_started(e: u8) {
-    show(b"unstarted", 44, charts::unstarted());
-    let c = continued(e, b"started", fresh(), 44, &[200]);
+fn not_started(rt: &impl Print, e: u8) -> io::Result<()> {
+    show(rt, b"unstarted", 44, charts::unstarted())?;
+    let c = continued(rt, e, b"started", fresh(), 44, &[200])?;
     show(
+        rt,
         b"stopped",
         44,
         Chart {
             started: false,
             ..c
         },
-    );
+    )
 }
 
 // The ends of the range of a difference, one past each, which leaves the chart as it is, and a chart's every reading.
-fn extremes(e: u8) {
-    series(e, b"ends", 1, &[400000, -800000, 400000]);
-    series(e, b"ends", 10000, &[400000, -800000, 400000]);
-    series(e, b"past", 1, &[400001, -800001]);
-    full(e, b"full-P", 400000, 400000);
-    full(e, b"full-M", -800000, -800000);
-    full(e, b"full-V", -800000, 400000);
+fn extremes(rt: &impl Print, e: u8) -> io::Result<()> {
+    series(rt, e, b"ends", 1, &[400000, -800000, 400000])?;
+    series(rt, e, b"ends", 10000, &[400000, -800000, 400000])?;
+    series(rt, e, b"past", 1, &[400001, -800001])?;
+    full(rt, e, b"full-P", 400000, 400000)?;
+    full(rt, e, b"full-M", -800000, -800000)?;
+    full(rt, e, b"full-V", -800000, 400000)
 }
 
 // The test of a chart's range: its ends hold, and one more of anything does not.
-fn soundness() {
-    show_sound(b"fresh", 0, 0, 0, 0);
-    show_sound(b"sum", 1, 0, 400000000, 1);
-    show_sound(b"sum+1", 1, 0, 400000001, 1);
-    show_sound(b"count+1", 1, 0, 1, 2);
-    show_sound(b"readings", 100000, 0, 0, 0);
-    show_sound(b"readings+1", 100001, 0, 0, 0);
-    show_sound(b"last", 1, -800000, 0, 0);
-    show_sound(b"last-1", 1, -800001, 0, 0);
+fn soundness(rt: &impl Print) -> io::Result<()> {
+    show_sound(rt, b"fresh", 0, 0, 0, 0)?;
+    show_sound(rt, b"sum", 1, 0, 400000000, 1)?;
+    show_sound(rt, b"sum+1", 1, 0, 400000001, 1)?;
+    show_sound(rt, b"count+1", 1, 0, 1, 2)?;
+    show_sound(rt, b"readings", 100000, 0, 0, 0)?;
+    show_sound(rt, b"readings+1", 100001, 0, 0, 0)?;
+    show_sound(rt, b"last", 1, -800000, 0, 0)?;
+    show_sound(rt, b"last-1", 1, -800001, 0, 0)
 }
 
-pub fn run(e: u8) {
-    paper(e);
-    sums(e);
-    adjustments(e);
-    reset_in_the_middle(e);
-    not_started(e);
-    extremes(e);
-    soundness();
+pub fn run(rt: &impl Print, e: u8) -> io::Result<()> {
+    paper(rt, e)?;
+    sums(rt, e)?;
+    adjustments(rt, e)?;
+    reset_in_the_middle(rt, e)?;
+    not_started(rt, e)?;
+    extremes(rt, e)?;
+    soundness(rt)
 }

@@ -16,18 +16,20 @@ mod script_file;
 mod script_record;
 mod script_words;
 
+use std::io;
+
 // The cases of every layer below the records.
-fn layers(edition: u8) {
-    rounding_cases::run(edition);
-    charts_cases::run(edition);
-    calibration_cases::run(edition);
-    lent_cases::run(edition);
+fn layers(rt: &impl Print, edition: u8) -> io::Result<()> {
+    rounding_cases::run(rt, edition)?;
+    charts_cases::run(rt, edition)?;
+    calibration_cases::run(rt, edition)?;
+    lent_cases::run(rt, edition)
 }
 
-fn main() {
-    layers(1);
-    print::text(b"edition 2\n");
-    layers(2);
-    lent_cases::no_edition();
-    script::run();
+fn main(rt: HostRuntime) -> io::Result<()> {
+    layers(&rt, 1)?;
+    print::text(&rt, b"edition 2\n")?;
+    layers(&rt, 2)?;
+    lent_cases::no_edition(&rt)?;
+    script::run(&rt)
 }

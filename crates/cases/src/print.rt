@@ -1,53 +1,49 @@
 // Pieces of a line on standard output.
 ghost use Rattle.std.specs.Prelude.{◌≡◌, unsigned_abs};
 
-use libc::STDOUT_FILENO;
+use std::io;
 
-pub fn text(s: &[u8]) {
-    io::write_all(STDOUT_FILENO, s);
+pub fn text(rt: &impl Print, s: &[u8]) -> io::Result<()> {
+    rt.write_all(s)
 }
 
-pub fn number(n: u64) {
-    io::print_decimal(STDOUT_FILENO, n);
+pub fn number(rt: &impl Print, n: u64) -> io::Result<()> {
+    rt.print(n)
 }
 
-pub fn signed(n: i64) {
+pub fn signed(rt: &impl Print, n: i64) -> io::Result<()> {
     if n < 0 {
-        text(b"-");
+        text(rt, b"-")?;
     }
-    number(size(n));
+    number(rt, size(n))
 }
 
 // 1 for true, 0 for false.
-pub fn flag(b: bool) {
-    if b {
-        text(b"1");
-    } else {
-        text(b"0");
-    }
+pub fn flag(rt: &impl Print, b: bool) -> io::Result<()> {
+    if b { text(rt, b"1") } else { text(rt, b"0") }
 }
 
 // A word and a number, with a space ahead of each.
-pub fn field(name: &[u8], n: u64) {
-    text(b" ");
-    text(name);
-    text(b" ");
-    number(n);
+pub fn field(rt: &impl Print, name: &[u8], n: u64) -> io::Result<()> {
+    text(rt, b" ")?;
+    text(rt, name)?;
+    text(rt, b" ")?;
+    number(rt, n)
 }
 
-pub fn count(name: &[u8], n: u32) {
-    field(name, n as u64);
+pub fn count(rt: &impl Print, name: &[u8], n: u32) -> io::Result<()> {
+    field(rt, name, n as u64)
 }
 
-pub fn signed_field(name: &[u8], n: i64) {
-    text(b" ");
-    text(name);
-    text(b" ");
-    signed(n);
+pub fn signed_field(rt: &impl Print, name: &[u8], n: i64) -> io::Result<()> {
+    text(rt, b" ")?;
+    text(rt, name)?;
+    text(rt, b" ")?;
+    signed(rt, n)
 }
 
-pub fn end_line() {
-    text(b"\n");
+pub fn end_line(rt: &impl Print) -> io::Result<()> {
+    text(rt, b"\n")
 }
 
 // The magnitude of any i64. One is added to a negative number first, so that its negative fits for the least one too.

@@ -1,13 +1,14 @@
 // Runs the script on standard input, the file `stdin`, whose head says what its commands do. A line that is no command, or has other
 // numbers than its command takes, is answered by `unknown`.
-ghost use Rattle.std.specs.Prelude.{◌≡◌, length};
+ghost use Rattle.std.specs.Prelude.{◌≡◌, ◌≤◌, IfOk, length};
 
 use crate::script_file::{Closing, Desk};
 use crate::script_words::Numbers;
 use crate::{charts_cases, print, script_file, script_record, script_words};
 use charts::Chart;
-use libc::STDIN_FILENO;
 use records::state::{Calibration, Demand, State, Stepped};
+use std::io;
+use std::io::Read;
 
 #[derive(Clone, Copy)]
 enum Command {
@@ -53,103 +54,102 @@ fn stepped(st: State, r: [u8; 40]) -> Stepped {
 }
 
 // The record n times, each d minutes after the one before, up to the first that is refused.
-fn applied(desk: Desk, n: u64, d: u64) -> Desk {
+fn applied(rt: &impl Print, desk: Desk, n: u64, d: u64) -> io::Result<Desk> {
     let mut st = desk.state;
     let mut r = desk.record;
     let mut left = n;
     while 0 < left {
         let s = stepped(st, r);
         if s.refusal != 0 {
-            print::count(b"refused", s.refusal);
-            return Desk {
+            print::count(rt, b"refused", s.refusal)?;
+            return Ok(Desk {
                 state: st,
                 record: r,
                 ..desk
-            };
+            });
         }
         st = s.state;
         script_record::move_on(&mut r, d);
         left -= 1;
     }
-    Desk {
+    Ok(Desk {
         state: st,
         record: r,
         ..desk
-    }
+    })
 }
 
 // The readings of a chart; a chart that is not started has none.
-fn show_chart(name: &[u8], c: Chart) {
+fn show_chart(rt: &impl Print, name: &[u8], c: Chart) -> io::Result<()> {
     if c.started {
-        print::count(name, c.readings);
-        return;
+        return print::count(rt, name, c.readings);
     }
-    print::text(b" ");
-    print::text(name);
-    print::text(b" -");
+    print::text(rt, b" ")?;
+    print::text(rt, name)?;
+    print::text(rt, b" -")
 }
 
-fn show_calibration(k: Calibration) {
+fn show_calibration(rt: &impl Print, k: Calibration) -> io::Result<()> {
     match k {
-        Calibration::Absent => print::text(b" calibration -"),
+        Calibration::Absent => print::text(rt, b" calibration -"),
         Calibration::InForce(f) => {
-            print::signed_field(b"calibration", print::wide(f.slope));
-            print::text(b" ");
-            print::signed(f.intercept);
-            print::text(b" ");
-            print::signed(print::wide(f.top.0));
-            print::text(b" ");
-            print::number(f.minute as u64);
+            print::signed_field(rt, b"calibration", print::wide(f.slope))?;
+            print::text(rt, b" ")?;
+            print::signed(rt, f.intercept)?;
+            print::text(rt, b" ")?;
+            print::signed(rt, print::wide(f.top.0))?;
+            print::text(rt, b" ")?;
+            print::number(rt, f.minute as u64)
         }
     }
 }
 
-fn show_call(d: Demand) {
+fn show_call(rt: &impl Print, d: Demand) -> io::Result<()> {
     match d {
-        Demand::Quiet => print::text(b" call -"),
-        Demand::Since(m) => print::count(b"call", m),
+        Demand::Quiet => print::text(rt, b" call -"),
+        Demand::Since(m) => print::count(rt, b"call", m),
     }
 }
 
-fn show(st: State) {
-    print::count(b"minute", st.minute);
+fn show(rt: &impl Print, st: State) -> io::Result<()> {
+    print::count(rt, b"minute", st.minute)?;
     let zero = st.zero;
     let span = st.span;
-    show_chart(b"zero", zero);
-    show_chart(b"span", span);
-    print::count(b"pairs", st.pending);
-    print::count(b"total", st.total);
-    print::count(b"outside", st.outside);
-    print::count(b"over", st.over);
+    show_chart(rt, b"zero", zero)?;
+    show_chart(rt, b"span", span)?;
+    print::count(rt, b"pairs", st.pending)?;
+    print::count(rt, b"total", st.total)?;
+    print::count(rt, b"outside", st.outside)?;
+    print::count(rt, b"over", st.over)?;
     let d = st.demand;
-    show_call(d);
+    show_call(rt, d)?;
     let k = st.calibration;
-    show_calibration(k);
+    show_calibration(rt, k)
 }
 
 // A line for each chart.
-fn show_charts(st: State) {
+fn show_charts(rt: &impl Print, st: State) -> io::Result<()> {
     let s = st.setting;
     let zero = st.zero;
     let span = st.span;
-    charts_cases::show(b"zero", s.zero, zero);
-    charts_cases::show(b"span", s.span, span);
+    charts_cases::show(rt, b"zero", s.zero, zero)?;
+    charts_cases::show(rt, b"span", s.span, span)
 }
 
 // ---- the commands
 
-fn unknown(desk: Desk) -> Desk {
-    print::text(b"unknown\n");
-    desk
+fn unknown(rt: &impl Print, desk: Desk) -> io::Result<Desk> {
+    print::text(rt, b"unknown\n")?;
+    Ok(desk)
 }
 
-fn start(desk: Desk, n: Numbers) -> Desk {
+fn start(rt: &impl Print, desk: Desk, n: Numbers) -> io::Result<Desk> {
     let a = script_words::value(n, 0);
     if 4294967295 < a {
-        return unknown(desk);
+        return unknown(rt, desk);
     }
     let st = records::apply::initial(a as u32);
-    Desk { state: st, ..desk }
+    Ok(Desk { state: st, ..desk })
 }
 
 fn prepare(desk: Desk, n: Numbers) -> Desk {
@@ -157,37 +157,42 @@ fn prepare(desk: Desk, n: Numbers) -> Desk {
     Desk { record: r, ..desk }
 }
 
-fn change(desk: Desk, n: Numbers) -> Desk {
+fn change(rt: &impl Print, desk: Desk, n: Numbers) -> io::Result<Desk> {
     let at = script_words::value(n, 0);
     let v = script_words::value(n, 1);
     if 39 < at {
-        return unknown(desk);
+        return unknown(rt, desk);
     }
     if 255 < v {
-        return unknown(desk);
+        return unknown(rt, desk);
     }
     let mut r = desk.record;
     script_record::put(&mut r, at as usize, 1, v);
-    Desk { record: r, ..desk }
+    Ok(Desk { record: r, ..desk })
 }
 
-fn apply(desk: Desk, n: Numbers) -> Desk {
+fn apply(rt: &impl Print, desk: Desk, n: Numbers) -> io::Result<Desk> {
     if n.count == 0 {
-        return applied(desk, 1, 0);
+        return applied(rt, desk, 1, 0);
     }
-    applied(desk, script_words::value(n, 0), script_words::value(n, 1))
+    applied(
+        rt,
+        desk,
+        script_words::value(n, 0),
+        script_words::value(n, 1),
+    )
 }
 
 // What the prepared record would meet. The state stays as it is.
-fn attempt(desk: Desk, title: &[u8]) -> Desk {
+fn attempt(rt: &impl Print, desk: Desk, title: &[u8]) -> io::Result<Desk> {
     let st = desk.state;
     let r = desk.record;
     let s = stepped(st, r);
-    print::text(title);
-    print::text(b": ");
-    print::number(s.refusal as u64);
-    print::end_line();
-    desk
+    print::text(rt, title)?;
+    print::text(rt, b": ")?;
+    print::number(rt, s.refusal as u64)?;
+    print::end_line(rt)?;
+    Ok(desk)
 }
 
 fn keep(desk: Desk) -> Desk {
@@ -212,14 +217,14 @@ fn signed(v: u64) -> i32 {
     first_field(r)
 }
 
-fn make(desk: Desk, n: Numbers) -> Desk {
+fn make(rt: &impl Print, desk: Desk, n: Numbers) -> io::Result<Desk> {
     let kind = script_words::value(n, 0);
     let minute = script_words::value(n, 1);
     if 255 < kind {
-        return unknown(desk);
+        return unknown(rt, desk);
     }
     if 4294967295 < minute {
-        return unknown(desk);
+        return unknown(rt, desk);
     }
     let k = Closing {
         kind: kind as u8,
@@ -227,6 +232,7 @@ fn make(desk: Desk, n: Numbers) -> Desk {
         z: signed(script_words::value(n, 2)),
     };
     script_file::make(
+        rt,
         desk,
         k,
         script_words::value(n, 3),
@@ -234,23 +240,23 @@ fn make(desk: Desk, n: Numbers) -> Desk {
     )
 }
 
-fn expect(desk: Desk, n: Numbers) -> Desk {
+fn expect(rt: &impl Print, desk: Desk, n: Numbers) -> io::Result<Desk> {
     let number = script_words::value(n, 0);
     if 4294967295 < number {
-        return unknown(desk);
+        return unknown(rt, desk);
     }
-    script_file::expect(desk, number as u32)
+    Ok(script_file::expect(desk, number as u32))
 }
 
 // A number that a byte can have, as an edition: told, or that of the block begun last.
-fn edition(desk: Desk, c: Command, n: Numbers) -> Desk {
+fn edition(rt: &impl Print, desk: Desk, c: Command, n: Numbers) -> io::Result<Desk> {
     let a = script_words::value(n, 0);
     if 255 < a {
-        return unknown(desk);
+        return unknown(rt, desk);
     }
     match c {
-        Command::Edition => script_file::tell_edition(desk, a as u8),
-        _ => script_file::open(desk, a as u8),
+        Command::Edition => Ok(script_file::tell_edition(desk, a as u8)),
+        _ => Ok(script_file::open(desk, a as u8)),
     }
 }
 
@@ -381,50 +387,50 @@ fn takes(c: Command, count: usize) -> bool {
 }
 
 // A command that writes.
-fn written(desk: Desk, c: Command) -> Desk {
+fn written(rt: &impl Print, desk: Desk, c: Command) -> io::Result<Desk> {
     let st = desk.state;
     match c {
-        Command::Show => show(st),
-        Command::Charts => show_charts(st),
-        Command::Report => script_file::show_report(st),
-        _ => print::end_line(),
+        Command::Show => show(rt, st)?,
+        Command::Charts => show_charts(rt, st)?,
+        Command::Report => script_file::show_report(rt, st)?,
+        _ => print::end_line(rt)?,
     }
-    desk
+    Ok(desk)
 }
 
 // A command of the file, or one that writes.
-fn filed(desk: Desk, c: Command, n: Numbers) -> Desk {
+fn filed(rt: &impl Print, desk: Desk, c: Command, n: Numbers) -> io::Result<Desk> {
     let a = script_words::value(n, 0);
     let b = script_words::value(n, 1);
     match c {
-        Command::List => script_file::list(desk),
-        Command::Clear => script_file::clear(desk),
-        Command::Form => script_file::form(desk, a, b),
-        Command::Take => script_file::take(desk, a),
-        Command::Make => make(desk, n),
-        Command::Poke => script_file::poke(desk, a, b),
-        Command::Seal => script_file::seal(desk, a),
-        Command::Expect => expect(desk, n),
-        Command::Edition => edition(desk, c, n),
-        Command::Open => edition(desk, c, n),
-        Command::Bytes => script_file::show_bytes(desk, a, b),
-        _ => written(desk, c),
+        Command::List => script_file::list(rt, desk),
+        Command::Clear => Ok(script_file::clear(desk)),
+        Command::Form => script_file::form(rt, desk, a, b),
+        Command::Take => script_file::take(rt, desk, a),
+        Command::Make => make(rt, desk, n),
+        Command::Poke => script_file::poke(rt, desk, a, b),
+        Command::Seal => script_file::seal(rt, desk, a),
+        Command::Expect => expect(rt, desk, n),
+        Command::Edition => edition(rt, desk, c, n),
+        Command::Open => edition(rt, desk, c, n),
+        Command::Bytes => script_file::show_bytes(rt, desk, a, b),
+        _ => written(rt, desk, c),
     }
 }
 
 // A command that takes numbers, or nothing.
-fn numbered(desk: Desk, c: Command, n: Numbers) -> Desk {
+fn numbered(rt: &impl Print, desk: Desk, c: Command, n: Numbers) -> io::Result<Desk> {
     if n.wrong | !takes(c, n.count) {
-        return unknown(desk);
+        return unknown(rt, desk);
     }
     match c {
-        Command::New => start(desk, n),
-        Command::Record => prepare(desk, n),
-        Command::Byte => change(desk, n),
-        Command::Apply => apply(desk, n),
-        Command::Keep => keep(desk),
-        Command::Back => back(desk),
-        _ => filed(desk, c, n),
+        Command::New => start(rt, desk, n),
+        Command::Record => Ok(prepare(desk, n)),
+        Command::Byte => change(rt, desk, n),
+        Command::Apply => apply(rt, desk, n),
+        Command::Keep => Ok(keep(desk)),
+        Command::Back => Ok(back(desk)),
+        _ => filed(rt, desk, c, n),
     }
 }
 
@@ -436,27 +442,27 @@ fn after_space(s: &[u8]) -> &[u8] {
     &s[1..]
 }
 
-fn line(desk: Desk, s: &[u8]) -> Desk {
+fn line(rt: &impl Print, desk: Desk, s: &[u8]) -> io::Result<Desk> {
     let w = script_words::find(s, 0, b' ');
     let c = command_of(&s[..w]);
     let rest = after_space(&s[w..]);
     match c {
-        Command::Nothing => desk,
+        Command::Nothing => Ok(desk),
         Command::Case => {
-            print::text(rest);
-            print::text(b":");
-            desk
+            print::text(rt, rest)?;
+            print::text(rt, b":")?;
+            Ok(desk)
         }
-        Command::Try => attempt(desk, rest),
+        Command::Try => attempt(rt, desk, rest),
         Command::Check => {
-            script_file::show_check(rest);
-            desk
+            script_file::show_check(rt, rest)?;
+            Ok(desk)
         }
-        _ => numbered(desk, c, script_words::read(rest)),
+        _ => numbered(rt, desk, c, script_words::read(rest)),
     }
 }
 
-fn lines(s: &[u8]) {
+fn lines(rt: &impl Print, s: &[u8]) -> io::Result<()> {
     let st = records::apply::initial(0);
     let mut desk = Desk {
         state: st,
@@ -472,12 +478,13 @@ fn lines(s: &[u8]) {
     let mut at = 0;
     while at < s.len() {
         let end = script_words::find(s, at, b'\n');
-        desk = line(desk, &s[at..end]);
+        desk = line(rt, desk, &s[at..end])?;
         if end == s.len() {
-            return;
+            return Ok(());
         }
         at = end + 1;
     }
+    Ok(())
 }
 
 // Room for the script and at least one byte more, by which a longer one is noticed.
@@ -487,12 +494,26 @@ fn room() -> [u8; 262144]
     [0; 262144]
 }
 
-pub fn run() {
-    let mut text = room();
-    let n = io::read_full(STDIN_FILENO, &mut text);
-    if 262144 <= n {
-        print::text(b"the script is too long\n");
-        return;
+// Reads until the buffer is full or the input ends, and says how many bytes came.
+fn read_full(input: &mut impl Read, buf: &mut [u8]) -> io::Result<usize>
+    ensures { IfOk result (λ n. n ≤ length buf.new) }
+{
+    let mut done = 0;
+    while done < buf.len() {
+        let n = input.read(&mut buf[done..])?;
+        if n == 0 {
+            return Ok(done);
+        }
+        done += n;
     }
-    lines(&text[..n]);
+    Ok(done)
+}
+
+pub fn run(rt: &(impl Print + Input)) -> io::Result<()> {
+    let mut text = room();
+    let n = read_full(&mut rt.reader(), &mut text)?;
+    if 262144 <= n {
+        return print::text(rt, b"the script is too long\n");
+    }
+    lines(rt, &text[..n])
 }

@@ -4,8 +4,8 @@ ghost use Rattle.std.specs.Prelude.{◌≤◌};
 
 use crate::print;
 use file::Replayed;
-use libc::STDOUT_FILENO;
 use records::state::State;
+use std::io;
 
 // What a script works on: a state, one that was kept, the record that is prepared, the listed records, the run of blocks, what the last call
 // left in its target, and the edition that is told.
@@ -30,16 +30,16 @@ pub fn clear(desk: Desk) -> Desk {
     }
 }
 
-fn no_room(desk: Desk) -> Desk {
-    print::text(b" no room");
-    desk
+fn no_room(rt: &impl Print, desk: Desk) -> io::Result<Desk> {
+    print::text(rt, b" no room")?;
+    Ok(desk)
 }
 
 // The prepared record is listed.
-pub fn list(desk: Desk) -> Desk {
+pub fn list(rt: &impl Print, desk: Desk) -> io::Result<Desk> {
     let at = desk.listed;
     if 480 < at {
-        return no_room(desk);
+        return no_room(rt, desk);
     }
     let r = desk.record;
     let mut list = desk.list;
@@ -48,18 +48,18 @@ pub fn list(desk: Desk) -> Desk {
         list[at + i] = r[i];
         i += 1;
     }
-    Desk {
+    Ok(Desk {
         list,
         listed: at + 40,
         ..desk
-    }
+    })
 }
 
 // The block in the target goes behind the run, and the list is empty.
-fn joined(desk: Desk) -> Desk {
+fn joined(rt: &impl Print, desk: Desk) -> io::Result<Desk> {
     let at = desk.length;
     if 1536 < at {
-        return no_room(desk);
+        return no_room(rt, desk);
     }
     let target = desk.target;
     let mut run = desk.run;
@@ -68,12 +68,12 @@ fn joined(desk: Desk) -> Desk {
         run[at + i] = target[i];
         i += 1;
     }
-    Desk {
+    Ok(Desk {
         run,
         length: at + 512,
         listed: 0,
         ..desk
-    }
+    })
 }
 
 fn untouched(target: [u8; 600]) -> bool {
@@ -88,14 +88,13 @@ fn untouched(target: [u8; 600]) -> bool {
 }
 
 // The refusal, the record's place, and whether the target has all its old bytes.
-fn tell(refusal: u32, index: u32, target: [u8; 600]) {
-    print::count(b"refused", refusal);
-    print::count(b"place", index);
+fn tell(rt: &impl Print, refusal: u32, index: u32, target: [u8; 600]) -> io::Result<()> {
+    print::count(rt, b"refused", refusal)?;
+    print::count(rt, b"place", index)?;
     if untouched(target) {
-        print::text(b" kept");
-        return;
+        return print::text(rt, b" kept");
     }
-    print::text(b" written");
+    print::text(rt, b" written")
 }
 
 // The answer of a call that has a target, and the target after it.
@@ -123,22 +122,22 @@ fn appended(st: State, edition: u8, list: [u8; 520], n: usize, size: usize) -> A
 }
 
 // A block of the listed records, but for their last `less` bytes, in a target of `size` bytes.
-pub fn form(desk: Desk, size: u64, less: u64) -> Desk {
+pub fn form(rt: &impl Print, desk: Desk, size: u64, less: u64) -> io::Result<Desk> {
     let n = desk.listed as u64;
     if 600 < size {
-        return no_room(desk);
+        return no_room(rt, desk);
     }
     if 520 < n {
-        return no_room(desk);
+        return no_room(rt, desk);
     }
     if n < less {
-        return no_room(desk);
+        return no_room(rt, desk);
     }
     let st = desk.state;
     let list = desk.list;
     let a = appended(st, desk.edition, list, (n - less) as usize, size as usize);
     let target = a.target;
-    tell(a.refusal, a.index, target);
+    tell(rt, a.refusal, a.index, target)?;
     let after = a.state;
     let next = Desk {
         state: after,
@@ -146,9 +145,9 @@ pub fn form(desk: Desk, size: u64, less: u64) -> Desk {
         ..desk
     };
     if a.refusal != 0 {
-        return next;
+        return Ok(next);
     }
-    joined(next)
+    joined(rt, next)
 }
 
 fn replayed(st: State, run: [u8; 2048], size: usize) -> Replayed
@@ -158,22 +157,22 @@ fn replayed(st: State, run: [u8; 2048], size: usize) -> Replayed
 }
 
 // The first `size` bytes of the run.
-pub fn take(desk: Desk, size: u64) -> Desk {
+pub fn take(rt: &impl Print, desk: Desk, size: u64) -> io::Result<Desk> {
     if 2048 < size {
-        return no_room(desk);
+        return no_room(rt, desk);
     }
     let st = desk.state;
     let run = desk.run;
     let r = replayed(st, run, size as usize);
-    print::field(b"blocks", r.blocks);
-    print::count(b"refused", r.refusal);
-    print::count(b"place", r.index);
+    print::field(rt, b"blocks", r.blocks)?;
+    print::count(rt, b"refused", r.refusal)?;
+    print::count(rt, b"place", r.index)?;
     let after = r.state;
-    print::count(b"next", after.next);
-    Desk {
+    print::count(rt, b"next", after.next)?;
+    Ok(Desk {
         state: after,
         ..desk
-    }
+    })
 }
 
 // The first forty bytes of the target are the prepared record.
@@ -219,16 +218,16 @@ fn made(st: State, edition: u8, list: [u8; 520], n: usize, k: Closing, size: usi
 }
 
 // A closing after the listed records, but for their last `less` bytes, in a target of `size` bytes.
-pub fn make(desk: Desk, k: Closing, size: u64, less: u64) -> Desk {
+pub fn make(rt: &impl Print, desk: Desk, k: Closing, size: u64, less: u64) -> io::Result<Desk> {
     let n = desk.listed as u64;
     if 600 < size {
-        return no_room(desk);
+        return no_room(rt, desk);
     }
     if 520 < n {
-        return no_room(desk);
+        return no_room(rt, desk);
     }
     if n < less {
-        return no_room(desk);
+        return no_room(rt, desk);
     }
     let st = desk.state;
     let list = desk.list;
@@ -241,25 +240,25 @@ pub fn make(desk: Desk, k: Closing, size: u64, less: u64) -> Desk {
         size as usize,
     );
     let target = a.target;
-    tell(a.refusal, a.index, target);
+    tell(rt, a.refusal, a.index, target)?;
     let next = Desk { target, ..desk };
     if a.refusal != 0 {
-        return next;
+        return Ok(next);
     }
-    prepared(next)
+    Ok(prepared(next))
 }
 
 // A byte of the run is changed.
-pub fn poke(desk: Desk, at: u64, v: u64) -> Desk {
+pub fn poke(rt: &impl Print, desk: Desk, at: u64, v: u64) -> io::Result<Desk> {
     if 2047 < at {
-        return no_room(desk);
+        return no_room(rt, desk);
     }
     if 255 < v {
-        return no_room(desk);
+        return no_room(rt, desk);
     }
     let mut run = desk.run;
     run[at as usize] = v as u8;
-    Desk { run, ..desk }
+    Ok(Desk { run, ..desk })
 }
 
 // The check of the 510 bytes from a place on.
@@ -270,38 +269,40 @@ fn sum(run: [u8; 2048], at: usize) -> u16
 }
 
 // Block k of the run gets its check.
-pub fn seal(desk: Desk, k: u64) -> Desk {
+pub fn seal(rt: &impl Print, desk: Desk, k: u64) -> io::Result<Desk> {
     if 3 < k {
-        return no_room(desk);
+        return no_room(rt, desk);
     }
     let at = 512 * k as usize;
     let mut run = desk.run;
     let n = sum(run, at);
     run[at + 510] = (n % 256) as u8;
     run[at + 511] = (n / 256) as u8;
-    Desk { run, ..desk }
+    Ok(Desk { run, ..desk })
 }
 
 // Bytes of the target, in hexadecimal.
-pub fn show_bytes(desk: Desk, from: u64, to: u64) -> Desk {
+pub fn show_bytes(rt: &impl Print, desk: Desk, from: u64, to: u64) -> io::Result<Desk> {
     let target = desk.target;
-    print::text(b" ");
+    print::text(rt, b" ")?;
     let mut i = from;
     while i < to {
         if i < 600 {
-            io::print_hex(STDOUT_FILENO, target[i as usize] as u64, 2);
+            let byte = target[i as usize];
+            print!(rt; "{byte:02x}")?;
         }
         i += 1;
     }
-    desk
+    Ok(desk)
 }
 
 // The check of some bytes.
-pub fn show_check(text: &[u8]) {
-    print::text(text);
-    print::text(b": check ");
-    io::print_hex(STDOUT_FILENO, file::check(text) as u64, 4);
-    print::end_line();
+pub fn show_check(rt: &impl Print, text: &[u8]) -> io::Result<()> {
+    print::text(rt, text)?;
+    print::text(rt, b": check ")?;
+    let sum = file::check(text);
+    print!(rt; "{sum:04x}")?;
+    print::end_line(rt)
 }
 
 // The edition that forming and making are told from here on.
@@ -330,20 +331,19 @@ pub fn expect(desk: Desk, n: u32) -> Desk {
 }
 
 // The six alarms and usable.
-pub fn show_report(st: State) {
+pub fn show_report(rt: &impl Print, st: State) -> io::Result<()> {
     let r = file::reporting::report(st);
     let zero = r.zero;
     let span = r.span;
-    print::text(b" alarms ");
-    print::flag(zero.rising);
-    print::flag(zero.falling);
-    print::flag(zero.precision);
-    print::flag(span.rising);
-    print::flag(span.falling);
-    print::flag(span.precision);
+    print::text(rt, b" alarms ")?;
+    print::flag(rt, zero.rising)?;
+    print::flag(rt, zero.falling)?;
+    print::flag(rt, zero.precision)?;
+    print::flag(rt, span.rising)?;
+    print::flag(rt, span.falling)?;
+    print::flag(rt, span.precision)?;
     if r.usable {
-        print::text(b" usable yes");
-        return;
+        return print::text(rt, b" usable yes");
     }
-    print::text(b" usable no");
+    print::text(rt, b" usable no")
 }
