@@ -89,14 +89,12 @@ pub fn pairs_of(s: Setup, xs: &[i32], ys: &[i32]) -> [Pair; 30] {
         conditions: first,
     };
     let mut pairs = [p; 30];
-    let mut i = 1;
-    while i < 30 {
+    for i in 1..30 {
         pairs[i] = Pair {
             signal: entry(xs, i),
             srm: Actual(entry(ys, i)),
             conditions: others,
         };
-        i += 1;
     }
     pairs
 }
@@ -108,13 +106,11 @@ fn ranged(pairs: [Pair; 30], n: u32, q: Requirements) -> bool
     if 30 < n {
         return false;
     }
-    let mut i: u32 = 0;
-    while i < n {
+    for i in 0..n {
         let p = pairs[i as usize];
         if !calibration::pair_ranged(p) {
             return false;
         }
-        i += 1;
     }
     calibration::requirements_ranged(q)
 }
@@ -1076,6 +1072,9 @@ fn tests_outside(rt: &impl Print, e: u8) -> io::Result<()> {
     annual(rt, e, b"x-below", 5, hot(92), l, &[-1], &[1])
 }
 
+// ---- all of them
+
+// Standard conditions and calibrated values.
 fn values_run(rt: &impl Print, e: u8) -> io::Result<()> {
     factors(rt, e)?;
     factor_halves(rt, e)?;
@@ -1085,6 +1084,7 @@ fn values_run(rt: &impl Print, e: u8) -> io::Result<()> {
     values_outside(rt, e)
 }
 
+// Fits.
 fn fits_run(rt: &impl Print, e: u8) -> io::Result<()> {
     paper_fits(rt, e)?;
     halves(rt, e)?;
@@ -1102,6 +1102,7 @@ fn fits_run(rt: &impl Print, e: u8) -> io::Result<()> {
     pairs_outside(rt, e)
 }
 
+// Annual tests.
 fn tests_run(rt: &impl Print, e: u8) -> io::Result<()> {
     paper_tests(rt, e)?;
     test_counts(rt, e)?;

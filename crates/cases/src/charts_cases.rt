@@ -51,11 +51,9 @@ fn continued(
     ds: &[i32],
 ) -> io::Result<Chart> {
     let mut c = begin;
-    let mut i = 0;
-    while i < ds.len() {
-        c = applied(e, c, s, ds[i]);
+    for d in ds {
+        c = applied(e, c, s, *d);
         show(rt, name, s, c)?;
-        i += 1;
     }
     Ok(c)
 }
@@ -69,11 +67,9 @@ fn series(rt: &impl Print, e: u8, name: &[u8], s: u16, ds: &[i32]) -> io::Result
 // Fills a chart with 50,000 pairs of readings at s 1, and tries one more.
 fn full(rt: &impl Print, e: u8, name: &[u8], first: i32, second: i32) -> io::Result<()> {
     let mut c = fresh();
-    let mut i: u32 = 0;
-    while i < 50000 {
+    for _ in 0..50000 {
         c = applied(e, c, 1, first);
         c = applied(e, c, 1, second);
-        i += 1;
     }
     show(rt, name, 1, c)?;
     show(rt, name, 1, applied(e, c, 1, first))

@@ -20,11 +20,7 @@ fn fit_first(pairs: [Pair; 1000], n: usize, b: Basis, z: i32) -> Fitted
 fn thousand(s: Setup, xs: &[i32], ys: &[i32]) -> [Pair; 1000] {
     let thirty = calibration_cases::pairs_of(s, xs, ys);
     let mut pairs = [thirty[29]; 1000];
-    let mut i = 0;
-    while i < 30 {
-        pairs[i] = thirty[i];
-        i += 1;
-    }
+    pairs[..30].copy_from_slice(&thirty);
     pairs
 }
 

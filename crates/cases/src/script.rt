@@ -57,8 +57,7 @@ fn stepped(st: State, r: [u8; 40]) -> Stepped {
 fn applied(rt: &impl Print, desk: Desk, n: u64, d: u64) -> io::Result<Desk> {
     let mut st = desk.state;
     let mut r = desk.record;
-    let mut left = n;
-    while 0 < left {
+    for _ in 0..n {
         let s = stepped(st, r);
         if s.refusal != 0 {
             print::count(rt, b"refused", s.refusal)?;
@@ -70,7 +69,6 @@ fn applied(rt: &impl Print, desk: Desk, n: u64, d: u64) -> io::Result<Desk> {
         }
         st = s.state;
         script_record::move_on(&mut r, d);
-        left -= 1;
     }
     Ok(Desk {
         state: st,

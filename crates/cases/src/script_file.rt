@@ -43,11 +43,7 @@ pub fn list(rt: &impl Print, desk: Desk) -> io::Result<Desk> {
     }
     let r = desk.record;
     let mut list = desk.list;
-    let mut i: usize = 0;
-    while i < 40 {
-        list[at + i] = r[i];
-        i += 1;
-    }
+    list[at..at + 40].copy_from_slice(&r);
     Ok(Desk {
         list,
         listed: at + 40,
@@ -63,10 +59,8 @@ fn joined(rt: &impl Print, desk: Desk) -> io::Result<Desk> {
     }
     let target = desk.target;
     let mut run = desk.run;
-    let mut i: usize = 0;
-    while i < 512 {
+    for i in 0..512 {
         run[at + i] = target[i];
-        i += 1;
     }
     Ok(Desk {
         run,
@@ -77,14 +71,7 @@ fn joined(rt: &impl Print, desk: Desk) -> io::Result<Desk> {
 }
 
 fn untouched(target: [u8; 600]) -> bool {
-    let mut i: usize = 0;
-    while i < 600 {
-        if target[i] != 165 {
-            return false;
-        }
-        i += 1;
-    }
-    true
+    target.iter().all(|b| *b == 165)
 }
 
 // The refusal, the record's place, and whether the target has all its old bytes.
@@ -179,10 +166,8 @@ pub fn take(rt: &impl Print, desk: Desk, size: u64) -> io::Result<Desk> {
 fn prepared(desk: Desk) -> Desk {
     let target = desk.target;
     let mut r = desk.record;
-    let mut i: usize = 0;
-    while i < 40 {
+    for i in 0..40 {
         r[i] = target[i];
-        i += 1;
     }
     Desk { record: r, ..desk }
 }
@@ -285,13 +270,11 @@ pub fn seal(rt: &impl Print, desk: Desk, k: u64) -> io::Result<Desk> {
 pub fn show_bytes(rt: &impl Print, desk: Desk, from: u64, to: u64) -> io::Result<Desk> {
     let target = desk.target;
     print::text(rt, b" ")?;
-    let mut i = from;
-    while i < to {
+    for i in from..to {
         if i < 600 {
             let byte = target[i as usize];
             print!(rt; "{byte:02x}")?;
         }
-        i += 1;
     }
     Ok(desk)
 }

@@ -8,15 +8,13 @@ use crate::script_words::Numbers;
 pub fn put(r: &mut [u8; 40], at: usize, width: usize, v: u64) {
     let mut rest = v;
     let mut i = at;
-    let mut left = width;
-    while 0 < left {
+    for _ in 0..width {
         if 40 <= i {
             return;
         }
         r[i] = (rest % 256) as u8;
-        rest = rest / 256;
+        rest /= 256;
         i += 1;
-        left -= 1;
     }
 }
 
@@ -41,12 +39,10 @@ pub fn record_of(n: Numbers) -> [u8; 40] {
     put(&mut r, 1, 1, script_words::value(n, 1));
     put(&mut r, 4, 4, script_words::value(n, 2));
     let mut at: usize = 8;
-    let mut i: usize = 3;
-    while i < 11 {
+    for i in 3..11 {
         let w = width(kind, i);
         put(&mut r, at, w, script_words::value(n, i));
         at += w;
-        i += 1;
     }
     r
 }
@@ -54,5 +50,5 @@ pub fn record_of(n: Numbers) -> [u8; 40] {
 // Moves the minute on by d.
 pub fn move_on(r: &mut [u8; 40], d: u64) {
     let m = records::bytes::read32(r, 4);
-    put(r, 4, 4, std::num::wrapping_add_u64(m as u64, d));
+    put(r, 4, 4, (m as u64).wrapping_add(d));
 }

@@ -19,28 +19,16 @@ pub fn find(s: &[u8], from: usize, b: u8) -> usize
     requires { from ≤ length s.now }
     ensures { (from ≤ result) × (result ≤ length s.now) }
 {
-    let mut i = from;
-    while i < s.len() {
+    for i in from..s.len() {
         if s[i] == b {
             return i;
         }
-        i += 1;
     }
-    i
+    s.len()
 }
 
 pub fn same(a: &[u8], b: &[u8]) -> bool {
-    if a.len() != b.len() {
-        return false;
-    }
-    let mut i = 0;
-    while i < a.len() {
-        if a[i] != b[i] {
-            return false;
-        }
-        i += 1;
-    }
-    true
+    a == b
 }
 
 // Number i; 0 past the last.
@@ -65,7 +53,7 @@ fn closed(n: Numbers) -> Numbers {
     }
     let mut m = n;
     m.values[at] = if n.minus {
-        std::num::wrapping_sub_u64(0, n.size)
+        0u64.wrapping_sub(n.size)
     } else {
         n.size
     };
@@ -118,10 +106,8 @@ pub fn read(s: &[u8]) -> Numbers {
         minus: false,
         begun: false,
     };
-    let mut i = 0;
-    while i < s.len() {
-        n = next(n, s[i]);
-        i += 1;
+    for b in s {
+        n = next(n, *b);
     }
     closed(n)
 }
