@@ -5,4 +5,4 @@ mod input;
 mod lines;
 mod session;
 
-pub use session::run;
+pub use session::{RunError, run};

@@ -1,27 +1,26 @@
 #![tactic(auto)]
 
 // Runs the reader over each file that an argument names, under a line with the file's name.
-use libc::STDOUT_FILENO;
+use std::fs::{File, Files};
+use std::{env, io};
 
-fn show(i: usize) {
-    let mut name = io::buffer();
-    let length = os::arg(i, &mut name);
-    io::write_all(STDOUT_FILENO, &name[..length]);
-    io::write_all(STDOUT_FILENO, b":\n");
-    let fd = os::open_read(&name[..length]);
-    if fd < 0 {
-        os::fail(&name[..length]);
-        return;
+// What fails at a file is said on standard error, and the next file follows.
+fn show<R: Files + Print + Eprint>(rt: &R, name: &str) -> io::Result<()> {
+    println!(rt; "{name}:")?;
+    match File::open(rt, name) {
+        Ok(mut file) => {
+            if let Err(e) = reading::run(&mut file, &mut io::writer(rt)) {
+                eprintln!(rt; "{e}")?;
+            }
+            Ok(())
+        }
+        Err(e) => eprintln!(rt; "{name}: {e}"),
     }
-    reading::run(fd);
-    libc::close(fd);
 }
 
-fn main() {
-    let n = os::arg_count();
-    let mut i: usize = 1;
-    while i < n {
-        show(i);
-        i += 1;
+fn main(rt: HostRuntime) -> io::Result<()> {
+    for name in env::args(&rt)?.skip(1) {
+        show(&rt, name.as_str())?;
     }
+    Ok(())
 }
