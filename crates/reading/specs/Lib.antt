@@ -2,3 +2,5 @@ pub mod Lines
 pub mod Output
 pub mod LineLaws
 pub mod OutputLaws
+pub mod Telling
+pub mod TellingLaws
