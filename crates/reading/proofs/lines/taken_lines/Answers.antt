@@ -1,4 +1,4 @@
-use Rattle.std.proofs.Common.{arith, ◌≡◌, ap, ◌∙◌, ℕ, ◌+◌, ◌*◌, ◌/◌, ◌≤◌, length}
+use Rattle.std.proofs.Common.{arith, ap, ℕ, ◌+◌, ◌/◌, ◌≤◌, length}
 use Rattle.reading.specs.Lines.{taken_line}
 use Rattle.reading.specs.LineLaws.{put_same, lines_again, lines_end}
 use Rattle.reading.proofs.lines.taken_lines.Goals as goal

@@ -1,5 +1,5 @@
 -- The lines of the blocks from k on, put where the last one ends, leave what all lines leave.
-use Rattle.std.proofs.Common.{◌≡◌, ℕ, ◌-◌, ◌*◌, ◌≤◌, length}
+use Rattle.std.proofs.Common.{◌-◌, ◌*◌, ◌≤◌}
 use Rattle.reading.specs.Lines.{taken_lines}
 use Rattle.reading.specs.LineLaws.{Left, lines_from}
 use Rattle.reading.proofs.lines.taken_lines.Given as goal
