@@ -4,5 +4,7 @@
 mod input;
 mod lines;
 mod session;
+#[cfg(test)]
+mod tests;
 
 pub use session::{RunError, run};

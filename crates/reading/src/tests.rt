@@ -1,0 +1,62 @@
+// A run over memory, and over a reader and a writer that fail in mid-stream. What is printed is that of the sample `short`.
+use crate::{RunError, run};
+use std::io::{Error, ErrorKind, Read, Result, Write};
+use std::test::Fail;
+
+// Gives so many bytes one at a time, and then fails.
+#[derive(Drop)]
+struct Failing {
+    left: usize,
+}
+
+impl Read for Failing {
+    fn read(&mut self, buf: &mut [u8]) -> Result<usize> {
+        if self.left == 0 || buf.is_empty() {
+            return Err(Error::from(ErrorKind::Other));
+        }
+        self.left -= 1;
+        Ok(1)
+    }
+}
+
+// Takes nothing.
+#[derive(Drop)]
+struct Full;
+
+impl Write for Full {
+    fn write(&mut self, _buf: &[u8]) -> Result<usize> {
+        Err(Error::from(ErrorKind::StorageFull))
+    }
+
+    fn flush(&mut self) -> Result<()> {
+        Ok(())
+    }
+}
+
+const SHORT: &[u8] = b"0 refused 1 -\nalarms 000000 usable no\n";
+
+#[test]
+fn tells_of_memory(rt: HostRuntime) -> std::result::Result<(), Fail> {
+    let mut input: &[u8] = &[0; 511];
+    let mut out = Vec::new(rt.alloc());
+    run(&mut input, &mut out)?;
+    assert_eq!(rt; out.as_slice(), SHORT);
+    Ok(())
+}
+
+#[test]
+fn tells_of_what_came_before_a_failed_read(rt: HostRuntime) -> std::result::Result<(), Fail> {
+    let mut out = Vec::new(rt.alloc());
+    let told = run(&mut Failing { left: 511 }, &mut out);
+    assert!(rt; matches!(told, Err(RunError::Input(_))));
+    assert_eq!(rt; out.as_slice(), SHORT);
+    Ok(())
+}
+
+#[test]
+fn returns_a_failed_write(rt: HostRuntime) -> std::result::Result<(), Fail> {
+    let mut input: &[u8] = &[0; 511];
+    let told = run(&mut input, &mut Full);
+    assert!(rt; matches!(told, Err(RunError::Output(_))));
+    Ok(())
+}
