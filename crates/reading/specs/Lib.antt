@@ -3,4 +3,3 @@ pub mod Output
 pub mod LineLaws
 pub mod OutputLaws
 pub mod Telling
-pub mod TellingLaws
