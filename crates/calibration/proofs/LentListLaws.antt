@@ -1,5 +1,5 @@
 -- What the code gathers of a lent list, and that its fit is the list's.
-use Rattle.std.specs.Prelude.{◌≡◌, refl, Bool, true, false, ◌&&◌, List, [], ◌∷◌, ◌++◌, ℕ, zero, suc, ◌+◌, ◌≤◌, ◌<◌, min, T, leb, ltb, ℤ, pos, neg_ℤ, length, take}
+use Rattle.std.specs.Prelude.{◌≡◌, refl, Bool, true, false, ◌&&◌, List, [], ◌∷◌, ◌++◌, ℕ, zero, suc, ◌+◌, ◌≤◌, ◌<◌, min, T, leb, ltb, ℤ, pos, neg_ℤ, length, take, if◌then◌else◌}
 use Rattle.std.proofs.Math.Path.{sym, ap}
 use Rattle.std.proofs.Common.{subst, ◌∙◌, arith, add-one, le-leb, lt-ltb, le-ltb, ne_eqb, T_not, leb→le, ltb→lt, nltb→le, length-append, length-set, take_all, take-suc-set}
 use Rattle.std.proofs.Math.Bool.{not, and-true, and_assoc}
@@ -7,7 +7,7 @@ use Rattle.std.proofs.lemmas.Bool.{lt-leb}
 use Rattle.std.proofs.Math.Dec.{nleb→lt}
 use Rattle.std.proofs.Math.ListN.{set}
 use Rattle.std.proofs.lemmas.List.{take-append-le}
-use Rattle.charts.specs.Tests.{if◌then◌else◌, if_yes, if_no, if_all, Answers, answers_and}
+use Rattle.charts.specs.Tests.{if_yes, if_no, if_all, Answers, answers_and}
 use Rattle.charts.specs.Rounding.{edition_known}
 use Rattle.calibration.specs.Pairs.{AllRanged, RequirementsRanged, ZRanged, pair_ranged_of, requirements_ranged_of, z_ranged_of, pair_answers, requirements_answers, between_answers}
 use Rattle.calibration.specs.Calibration.{count_fits, refused_fit, fit_of}
@@ -91,7 +91,7 @@ module _ (g : Gathered) (b : Basis) (z : ℤ) where
   gathered_unknown h = if_yes (not (edition_known b.edition)) _ _ (ap not h)
 
   module _ (K : edition_known b.edition ≡ true) where
-    known : gathered_fit g b z ≡ (if not gathered_ranged then refused_fit 13 else if ltb 30 g.count then refused_fit 20 else fit_of b.edition q z (take g.count g.pairs))
+    known : gathered_fit g b z ≡ (if not gathered_ranged then refused_fit 13 else (if ltb 30 g.count then refused_fit 20 else fit_of b.edition q z (take g.count g.pairs)))
     unfolding gathered_fit
     known = if_no (not (edition_known b.edition)) _ _ (ap not K)
 
@@ -164,8 +164,8 @@ module _ (g : Gathered) (ps : List Pair) (G : Gathers g ps) where
     abbrev behind : Bool → Fitted → Fitted
     behind ranged r =
         if not (edition_known b.edition) then refused_fit 3
-        else if not ((requirements_ranged_of b.requirements && z_ranged_of z) && ranged) then refused_fit 13
-        else r
+        else (if not ((requirements_ranged_of b.requirements && z_ranged_of z) && ranged) then refused_fit 13
+        else r)
 
     pub gathers_fit : gathered_fit g b z ≡ fit_list_of b z ps
     unfolding gathered_fit fit_list_of

@@ -1,7 +1,6 @@
 -- Paper 01, 'Annual test (8.4, 8.5)', and paper 02, C-12. The definitions are those of the calibration, with the function in force.
-use Rattle.std.specs.Prelude.{Bool, false, not, ◌&&◌, ◌||◌, List, ℕ, ◌-◌, ◌*◌, leb, eqb, ℤ, pos, nat_abs, ◌-ℤ◌, ◌*ℤ◌, length}
+use Rattle.std.specs.Prelude.{Bool, false, not, ◌&&◌, ◌||◌, List, ℕ, ◌-◌, ◌*◌, leb, eqb, ℤ, pos, nat_abs, ◌-ℤ◌, ◌*ℤ◌, length, if◌then◌else◌}
 use Rattle.std.specs.Int.Signed.{le_z}
-use Rattle.charts.specs.Tests.{if◌then◌else◌}
 use Rattle.calibration.specs.Calibration.{some_beyond, deviations_of, total, q_of}
 use Rattle.calibration.specs.declared.Pair.{Pair}
 use Rattle.calibration.specs.declared.Requirements.{Requirements}
@@ -15,18 +14,18 @@ annual_count_fits n = leb 5 n && leb n 8
 unfoldable pub annual_k_of : ℕ → ℕ
 annual_k_of n =
     if eqb n 5 then 9161
-    else if eqb n 6 then 9329
-    else if eqb n 7 then 9441
-    else if eqb n 8 then 9521
-    else 0
+    else (if eqb n 6 then 9329
+    else (if eqb n 7 then 9441
+    else (if eqb n 8 then 9521
+    else 0)))
 
 unfoldable pub t_of : ℕ → ℕ
 t_of n =
     if eqb n 5 then 2132
-    else if eqb n 6 then 2015
-    else if eqb n 7 then 1943
-    else if eqb n 8 then 1895
-    else 0
+    else (if eqb n 6 then 2015
+    else (if eqb n 7 then 1943
+    else (if eqb n 8 then 1895
+    else 0)))
 
 -- variability: 4·10⁸·Q ≤ 9N(N-1)σ²k²
 unfoldable pub annual_varied_of : ℕ → ℤ → ℤ → Bool
@@ -46,9 +45,9 @@ unfoldable pub test_of : ℕ → Requirements → Line → List Pair → Tested
 test_of edition q l ps =
     let ds : List ℤ = deviations_of edition q.oxygen l ps in
     if not (annual_count_fits (length ps)) then refused_test 20
-    else if some_beyond edition q.oxygen l ps then refused_test 24
+    else (if some_beyond edition q.oxygen l ps then refused_test 24
     else record {
       refusal = 0;
       variability = annual_varied_of (length ps) (q_of ds) q.uncertainty;
       function = function_of (length ps) (total ds) (q_of ds) q.uncertainty;
-    }
+    })

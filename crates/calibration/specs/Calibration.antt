@@ -1,8 +1,7 @@
 -- Paper 01, 'Calibration (6.4, 6.5)', from the sums over the pairs to the verdict, and paper 02, C-12. Every formula is over ℤ, as printed; whatever rounds
 -- has the edition as its first argument.
-use Rattle.std.specs.Prelude.{Bool, true, false, not, ◌&&◌, ◌||◌, List, [], ◌∷◌, map, ℕ, ◌+◌, ◌-◌, ◌*◌, leb, eqb, ℤ, pos, neg_ℤ, ◌+ℤ◌, ◌-ℤ◌, ◌*ℤ◌, length}
+use Rattle.std.specs.Prelude.{Bool, true, false, not, ◌&&◌, ◌||◌, List, [], ◌∷◌, map, ℕ, ◌+◌, ◌-◌, ◌*◌, leb, eqb, ℤ, pos, neg_ℤ, ◌+ℤ◌, ◌-ℤ◌, ◌*ℤ◌, length, if◌then◌else◌}
 use Rattle.std.specs.Int.Signed.{le_z, lt_z}
-use Rattle.charts.specs.Tests.{if◌then◌else◌}
 use Rattle.charts.specs.Rounding.{near_of}
 use Rattle.calibration.specs.Pairs.{Between, between_of}
 use Rattle.calibration.specs.Conditions.{standard_of}
@@ -178,14 +177,14 @@ count_fits n = leb 15 n && leb n 20 || (eqb n 25 || eqb n 30)
 unfoldable pub k_of : ℕ → ℕ
 k_of n =
     if eqb n 15 then 9761
-    else if eqb n 16 then 9777
-    else if eqb n 17 then 9791
-    else if eqb n 18 then 9803
-    else if eqb n 19 then 9814
-    else if eqb n 20 then 9824
-    else if eqb n 25 then 9861
-    else if eqb n 30 then 9885
-    else 0
+    else (if eqb n 16 then 9777
+    else (if eqb n 17 then 9791
+    else (if eqb n 18 then 9803
+    else (if eqb n 19 then 9814
+    else (if eqb n 20 then 9824
+    else (if eqb n 25 then 9861
+    else (if eqb n 30 then 9885
+    else 0)))))))
 
 -- 10⁸·Q ≤ N(N-1)σ²k²
 unfoldable pub varied_of : ℕ → ℤ → ℤ → Bool
@@ -221,8 +220,8 @@ fit_from edition q z ps u =
     let flat : Bool = flat_of edition q ps in
     let b : ℤ = slope_of edition flat u z in
     if le_z (divisor_of flat u z) (pos 0) then refused_fit 22
-    else if not (slope_ranged_of b) then refused_fit 23
-    else line_fits edition q ps (record { slope = b; intercept = intercept_of edition flat u z b })
+    else (if not (slope_ranged_of b) then refused_fit 23
+    else line_fits edition q ps (record { slope = b; intercept = intercept_of edition flat u z b }))
 
 unfoldable pub fit_of : ℕ → Requirements → ℤ → List Pair → Fitted
 fit_of edition q z ps =

@@ -1,10 +1,10 @@
 -- The formulas as the code works them out, and the ranges in which its arithmetic fits.
-use Rattle.std.specs.Prelude.{◌≡◌, Bool, true, false, ℕ, ◌+◌, ◌-◌, ◌*◌, ◌/◌, ◌%◌, ◌≤◌, ◌<◌, T, leb, ℤ, neg_ℤ, nat_abs, ◌+ℤ◌, ◌-ℤ◌, ◌*ℤ◌, ◌<ℤ◌}
+use Rattle.std.specs.Prelude.{◌≡◌, Bool, true, false, ℕ, ◌+◌, ◌-◌, ◌*◌, ◌/◌, ◌%◌, ◌≤◌, ◌<◌, T, leb, ℤ, neg_ℤ, nat_abs, ◌+ℤ◌, ◌-ℤ◌, ◌*ℤ◌, ◌<ℤ◌, if◌then◌else◌}
 use Rattle.std.proofs.Math.Path.{refl}
 use Rattle.std.proofs.Common.{sym, ap, subst, ◌∙◌, arith, le-div_iff_mul-le, div-add-mod'}
 use borrow.Author.Tests.{lt-leb}
 use Rattle.std.proofs.Math.IntN.{pos}
-use Rattle.charts.specs.Tests.{if◌then◌else◌, if_yes, if_no, same_answer, answers_as, answers_le}
+use Rattle.charts.specs.Tests.{if_yes, if_no, same_answer, answers_as, answers_le}
 use Rattle.charts.specs.Rounding.{near_of}
 use Rattle.charts.proofs.RoundingLaws.{even_multiple, near_bound, near_nonneg, near_shift}
 use Rattle.charts.specs.Division.{Divided}

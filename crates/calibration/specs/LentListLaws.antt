@@ -1,8 +1,7 @@
 -- What the code gathers of a lent list. That its fit is the list's is proved in proofs/LentListLaws.
-use Rattle.std.specs.Prelude.{true, ◌&&◌, ◌+◌, leb, ltb, ℤ, take, replicate}
+use Rattle.std.specs.Prelude.{true, ◌&&◌, ◌+◌, leb, ltb, ℤ, take, replicate, if◌then◌else◌}
 use Rattle.std.proofs.Math.Bool.{not}
 use Rattle.std.proofs.Math.ListN.{set}
-use Rattle.charts.specs.Tests.{if◌then◌else◌}
 use Rattle.charts.specs.Rounding.{edition_known}
 use Rattle.calibration.specs.Pairs.{pair_ranged_of, requirements_ranged_of, z_ranged_of}
 use Rattle.calibration.specs.Calibration.{refused_fit, fit_of}
@@ -26,6 +25,6 @@ gather_of g p =
 unfoldable pub gathered_fit : Gathered → Basis → ℤ → Fitted
 gathered_fit g b z =
     if not (edition_known b.edition) then refused_fit 3
-    else if not ((requirements_ranged_of b.requirements && z_ranged_of z) && g.ranged) then refused_fit 13
-    else if ltb 30 g.count then refused_fit 20
-    else fit_of b.edition b.requirements z (take g.count g.pairs)
+    else (if not ((requirements_ranged_of b.requirements && z_ranged_of z) && g.ranged) then refused_fit 13
+    else (if ltb 30 g.count then refused_fit 20
+    else fit_of b.edition b.requirements z (take g.count g.pairs)))

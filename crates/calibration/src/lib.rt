@@ -1,8 +1,7 @@
 #![tactic(auto)]
 
-ghost use Rattle.std.specs.Prelude.{◌≡◌, true, false, ◌+◌, ◌-◌, ◌*◌, ◌<◌, ◌≤◌, ◌^◌, leb, pos, negsuc, nat_abs, ◌+ℤ◌, ◌-ℤ◌, ◌*ℤ◌, ◌<ℤ◌, ◌≤ℤ◌, take, length};
+ghost use Rattle.std.specs.Prelude.{◌≡◌, true, false, ◌+◌, ◌-◌, ◌*◌, ◌<◌, ◌≤◌, ◌^◌, leb, pos, negsuc, nat_abs, ◌+ℤ◌, ◌-ℤ◌, ◌*ℤ◌, ◌<ℤ◌, ◌≤ℤ◌, take, length, if◌then◌else◌};
 ghost use Rattle.std.specs.Int.Signed.{le_z};
-ghost use Rattle.charts.specs.Tests.{if◌then◌else◌};
 ghost use Rattle.calibration.specs.Conditions.{standard_of, times_of};
 ghost use Rattle.calibration.specs.Pairs.{AllRanged, Between, ConditionsRanged, OxygenRanged, PairRanged, RequirementsRanged, ZRanged, between_of, conditions_ranged_of, pair_ranged_of, requirements_ranged_of, z_ranged_of};
 ghost use Rattle.calibration.specs.Calibration.{LineRanged, beyond_of, c_of, calibrated_of, count_fits, deviations_of, divisor_of, far_of, fit_from, fit_of, flat_of, higher_of, intercept_of, k_of, line_fits, line_ranged_of, lower_of, measured_of, plus_of, q_of, refused_fit, residuals_of, rise_of, share_of, slope_of, slope_ranged_of, some_beyond, span_of, sums_of, top_of, value_of, varied_of, widened_of};

@@ -1,9 +1,9 @@
 -- Laws of `near_of`, and of the division that the code works it out by. Callers cite these and, but for worked cases, never the text of `near_of`.
-use Rattle.std.specs.Prelude.{◌≡◌, refl, Bool, true, false, not, ◌&&◌, ◌||◌, ℕ, zero, suc, ◌+◌, ◌*◌, ◌/◌, ◌%◌, ◌≤◌, ◌<◌, T, eqb, ltb, ℤ, pos, negsuc, neg_ℤ, nat_abs, ◌+ℤ◌, ◌-ℤ◌, ◌*ℤ◌, ◌≤ℤ◌, ◌<ℤ◌}
+use Rattle.std.specs.Prelude.{◌≡◌, refl, Bool, true, false, not, ◌&&◌, ◌||◌, ℕ, zero, suc, ◌+◌, ◌*◌, ◌/◌, ◌%◌, ◌≤◌, ◌<◌, T, eqb, ltb, ℤ, pos, negsuc, neg_ℤ, nat_abs, ◌+ℤ◌, ◌-ℤ◌, ◌*ℤ◌, ◌≤ℤ◌, ◌<ℤ◌, if◌then◌else◌}
 use Rattle.std.proofs.Common.{sym, ap, ◌∙◌, subst, arith, div-le_self, div-add-mod', mod-lt, lt_of_mul-lt-mul_right, le-ltb, eq-eqb, ne_eqb, ltb→lt, nltb→le, eqb→eq}
 use Rattle.std.proofs.lemmas.Bool.{eqb-false}
 use Rattle.std.specs.Int.Signed.{shr_z, quot_z, rem_z, ≤ℤ_refl}
-use Rattle.charts.specs.Tests.{if◌then◌else◌, if_all, if_yes, if_no}
+use Rattle.charts.specs.Tests.{if_all, if_yes, if_no}
 use Rattle.charts.specs.Rounding.{odd, rounds_up, near_of}
 use Rattle.charts.specs.Division.{Divided, division_of}
 use Rattle.charts.specs.declared.Division.{Division}

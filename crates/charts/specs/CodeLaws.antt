@@ -1,11 +1,11 @@
 -- The sums of a chart as the code works them out, unsigned: x is the difference d raised by b, so that it is not negative.
-use Rattle.std.specs.Prelude.{◌≡◌, refl, true, false, ℕ, ◌+◌, ◌-◌, ◌*◌, ◌≤◌, ◌<◌, ℤ, negsuc, neg_ℤ, ◌+ℤ◌, ◌-ℤ◌, ◌*ℤ◌}
+use Rattle.std.specs.Prelude.{◌≡◌, refl, true, false, ℕ, ◌+◌, ◌-◌, ◌*◌, ◌≤◌, ◌<◌, ℤ, negsuc, neg_ℤ, ◌+ℤ◌, ◌-ℤ◌, ◌*ℤ◌, if◌then◌else◌}
 use Rattle.std.proofs.Math.Path.{ap}
 use Rattle.std.proofs.Common.{◌∙◌, arith}
 use Rattle.std.proofs.Math.IntN.{pos, nat_abs}
 use Rattle.std.specs.Int.Signed.{lt_z}
 use Rattle.charts.specs.Integers.{sum, diff, prod, one_zero, abs_ud, up_neg, dn_neg, ud_eq, ud_le, ud_lt, eq_ud, le_lt_z, lt_lt_z}
-use Rattle.charts.specs.Tests.{if◌then◌else◌, if_yes, if_no}
+use Rattle.charts.specs.Tests.{if_yes, if_no}
 use Rattle.charts.specs.Sums.{empty, added}
 use Rattle.charts.specs.declared.Sum.{Sum}
 use Rattle.charts.specs.Charts.{rising_term, falling_term, precision_term}

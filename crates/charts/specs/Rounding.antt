@@ -1,7 +1,6 @@
 -- Paper 01, 'Units and rounding', and paper 02, C-12: rounding by an edition. 2 is edition 2, and every other number rounds as edition 1 does.
-use Rattle.std.specs.Prelude.{Bool, not, ◌&&◌, ◌||◌, ℕ, ◌*◌, ◌%◌, eqb, ltb, ℤ, pos, nat_abs, ◌+ℤ◌, ◌-ℤ◌, ◌*ℤ◌}
+use Rattle.std.specs.Prelude.{Bool, not, ◌&&◌, ◌||◌, ℕ, ◌*◌, ◌%◌, eqb, ltb, ℤ, pos, nat_abs, ◌+ℤ◌, ◌-ℤ◌, ◌*ℤ◌, if◌then◌else◌}
 use Rattle.std.specs.Int.Signed.{shr_z}
-use Rattle.charts.specs.Tests.{if◌then◌else◌}
 
 -- the editions that there are (paper 02, C-12)
 unfoldable pub edition_known : ℕ → Bool

@@ -1,7 +1,6 @@
 -- Paper 01, 'Charts (7.2-7.6)': one sum with its count, for any term.
-use Rattle.std.specs.Prelude.{ℕ, ◌+◌, ℤ, pos, nat_abs, ◌+ℤ◌}
+use Rattle.std.specs.Prelude.{ℕ, ◌+◌, ℤ, pos, nat_abs, ◌+ℤ◌, if◌then◌else◌}
 use Rattle.std.specs.Int.Signed.{lt_z}
-use Rattle.charts.specs.Tests.{if◌then◌else◌}
 use Rattle.charts.specs.declared.Sum.{Sum}
 
 -- nothing summed

@@ -1,5 +1,5 @@
 -- A closing that is made is accepted: its bytes give back the figures that were worked out, and no row of the table refuses it.
-use Rattle.std.specs.Prelude.{◌≡◌, Bool, not, ◌&&◌, ◌||◌, List, map, ℕ, ◌+◌, ◌-◌, ◌*◌, ◌/◌, ◌%◌, ◌≤◌, ◌<◌, T, leb, ltb, eqb, ℤ, pos, negsuc, neg_ℤ, nat_abs, length, take}
+use Rattle.std.specs.Prelude.{◌≡◌, Bool, not, ◌&&◌, ◌||◌, List, map, ℕ, ◌+◌, ◌-◌, ◌*◌, ◌/◌, ◌%◌, ◌≤◌, ◌<◌, T, leb, ltb, eqb, ℤ, pos, negsuc, neg_ℤ, nat_abs, length, take, if◌then◌else◌}
 use Rattle.std.proofs.Math.Path.{refl}
 use Rattle.std.proofs.Common.{sym, ap, subst, ◌∙◌, arith, SFits, length-take}
 use Rattle.std.proofs.Math.Bool.{true, false}
@@ -8,7 +8,7 @@ use Rattle.std.proofs.Math.Facts.{or_no, ltb_no}
 use Rattle.std.specs.Int.{w32, w64}
 use Rattle.std.proofs.lemmas.List.{length-map}
 use Rattle.std.specs.Int.Signed.{mag, le_z, ≤ℤ_refl}
-use Rattle.charts.specs.Tests.{if◌then◌else◌, if_yes, if_all}
+use Rattle.charts.specs.Tests.{if_yes, if_all}
 use Rattle.charts.specs.Integers.{le_le_z, abs_sfits}
 use Rattle.calibration.specs.Pairs.{RequirementsRanged, ZRanged, z_ranged_of, between_answers}
 use Rattle.calibration.specs.PairLaws.{between_fits}
@@ -245,7 +245,7 @@ unfolding sets
 not_one r k e n = ne_eqb (kind r) 1 (λ z. n (sym e ∙ z))
 
 -- no refusal of its own, and the stored figures are those worked out
-both_pass : (n : ℕ) (stores : Bool) → n ≡ 0 → stores ≡ true → (if not (eqb n 0) then n else if not stores then 25 else 0) ≡ 0
+both_pass : (n : ℕ) (stores : Bool) → n ≡ 0 → stores ≡ true → (if not (eqb n 0) then n else (if not stores then 25 else 0)) ≡ 0
 both_pass n stores e h = rw (e, h)
 
 module _ (f : Facts) (r : Record) where

@@ -1,5 +1,5 @@
 -- Making a closing, part by part: its bytes, its rows, and the call.
-use Rattle.std.specs.Prelude.{◌≡◌, Bool, true, false, not, ◌||◌, eqb, ℤ, pos, neg_ℤ}
+use Rattle.std.specs.Prelude.{◌≡◌, Bool, true, false, not, ◌||◌, eqb, ℤ, pos, neg_ℤ, if◌then◌else◌}
 use Rattle.std.proofs.Math.Path.{refl, sym, ap}
 use Rattle.std.proofs.Common.{subst, ◌∙◌, arith}
 use mathlib.Core.List.{List, [], ◌∷◌, ◌++◌, append_assoc}
@@ -8,7 +8,7 @@ use borrow.Author.Tests.{eq-eqb, ne_eqb, eqb-true, eqb-false, not-false}
 use Rattle.std.proofs.Math.Dec.{ltb}
 use Rattle.std.proofs.Math.ListN.{length, replicate, length-append}
 use Rattle.std.proofs.lemmas.List.Edits.{sets, sets-eq}
-use Rattle.charts.specs.Tests.{if◌then◌else◌, if_yes, if_no}
+use Rattle.charts.specs.Tests.{if_yes, if_no}
 use Rattle.calibration.specs.Pairs.{ZRanged, between_answers}
 use Rattle.calibration.specs.declared.Fitted.{Fitted}
 use Rattle.calibration.specs.declared.Tested.{Tested}
@@ -150,7 +150,7 @@ module _ (f : Facts) (kind minute : ℕ) (z : ℤ) where
 
 -- the rows that follow come to count where none of these stops it
 abbrev after : Bool → Bool → Bool → ℕ → ℕ
-after a b c n = if a then 11 else if b then 12 else if c then 13 else n
+after a b c n = if a then 11 else (if b then 12 else (if c then 13 else n))
 
 after_stopped : (a b c : Bool) (n : ℕ) → (after a b c 0 ≡ 0 → ⊥) → after a b c n ≡ after a b c 0
 after_stopped true b c n h = refl
@@ -319,13 +319,13 @@ made_passes st edition bytes kind minute z size e =
 
     by_tests : (a b c d t r o : Bool) → records_fit 0 11 (length bytes) ≡ b → ready_of st ≡ d → eqb told 0 ≡ t → eqb ran.refusal 0 ≡ r → eqb own 0 ≡ o
         → (if not a then made 1 255
-        else if not b then made 6 255
-        else if not c then made 6 255
-        else if not d then made 7 255
-        else if not t then made told 255
-        else if not r then made ran.refusal ran.index
-        else if not o then made own (length bytes / 40)
-        else made 0 255).refusal ≡ 0
+        else (if not b then made 6 255
+        else (if not c then made 6 255
+        else (if not d then made 7 255
+        else (if not t then made told 255
+        else (if not r then made ran.refusal ran.index
+        else (if not o then made own (length bytes / 40)
+        else made 0 255))))))).refusal ≡ 0
         → MadePasses st edition bytes kind minute z
     by_tests false b c d t r o f g h i j e = absurd (omega arith)
     by_tests true false c d t r o f g h i j e = absurd (omega arith)

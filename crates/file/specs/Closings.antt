@@ -1,7 +1,6 @@
 -- Paper 01, 'Making blocks and closings', and paper 02, C-12 and C-13: making a closing, and the rows of 'Where input is stopped' for it. Its figures are worked
 -- out from the state that the records before it lead to, in a block of the edition told.
-use Rattle.std.specs.Prelude.{Bool, not, ◌||◌, List, [], ◌∷◌, ◌++◌, ℕ, ◌-◌, ◌/◌, ◌%◌, ltb, eqb, ℤ, pos, negsuc, length, replicate}
-use Rattle.charts.specs.Tests.{if◌then◌else◌}
+use Rattle.std.specs.Prelude.{Bool, not, ◌||◌, List, [], ◌∷◌, ◌++◌, ℕ, ◌-◌, ◌/◌, ◌%◌, ltb, eqb, ℤ, pos, negsuc, length, replicate, if◌then◌else◌}
 use Rattle.calibration.specs.Pairs.{z_ranged_of}
 use Rattle.calibration.specs.declared.Fitted.{Fitted}
 use Rattle.calibration.specs.declared.Tested.{Tested}
@@ -62,10 +61,10 @@ z_fits kind z = if eqb kind 5 then z_ranged_of z else sameℤ z (pos 0)
 unfoldable pub closing_refusal : Facts → ℕ → ℕ → ℤ → ℕ
 closing_refusal f kind minute z =
     if not f.begun then 11
-    else if ltb minute f.minute || ltb 100000000 minute then 12
-    else if not (z_fits kind z) then 13
-    else if eqb kind 5 then (calibration_of f z).refusal
-    else (annual_of f).refusal
+    else (if ltb minute f.minute || ltb 100000000 minute then 12
+    else (if not (z_fits kind z) then 13
+    else (if eqb kind 5 then (calibration_of f z).refusal
+    else (annual_of f).refusal)))
 
 -- ---- the call
 
@@ -88,12 +87,12 @@ unfoldable pub make_of : State → ℕ → List ℕ → ℕ → ℕ → ℤ → 
 make_of st edition bytes kind minute z size =
     let ran : Ran State = ran_before st edition bytes in
     if not (eqb size 40) then made 1 255
-    else if not (records_fit 0 11 (length bytes)) then made 6 255
-    else if not (eqb kind 5 || eqb kind 6) then made 6 255
-    else if not (ready_of st) then made 7 255
-    else if not (eqb (told_refusal st.edition edition) 0) then made (told_refusal st.edition edition) 255
-    else if not (eqb ran.refusal 0) then made ran.refusal ran.index
-    else closed (facts_of ran.kept) (length bytes / 40) kind minute z
+    else (if not (records_fit 0 11 (length bytes)) then made 6 255
+    else (if not (eqb kind 5 || eqb kind 6) then made 6 255
+    else (if not (ready_of st) then made 7 255
+    else (if not (eqb (told_refusal st.edition edition) 0) then made (told_refusal st.edition edition) 255
+    else (if not (eqb ran.refusal 0) then made ran.refusal ran.index
+    else closed (facts_of ran.kept) (length bytes / 40) kind minute z)))))
 
 -- the target after it: the new closing, or all bytes as before if there is none
 unfoldable pub made_bytes : State → ℕ → List ℕ → ℕ → ℕ → ℤ → List ℕ → List ℕ
@@ -119,6 +118,6 @@ kept refusal new old = if eqb refusal 0 then new else old
 unfoldable pub first_rows : Facts → ℕ → ℕ → ℤ → ℕ
 first_rows f kind minute z =
     if not f.begun then 11
-    else if ltb minute f.minute || ltb 100000000 minute then 12
-    else if not (z_fits kind z) then 13
-    else 0
+    else (if ltb minute f.minute || ltb 100000000 minute then 12
+    else (if not (z_fits kind z) then 13
+    else 0))

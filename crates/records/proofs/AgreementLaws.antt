@@ -1,5 +1,5 @@
 -- A state that agrees with a history refuses a record as the history does, and otherwise agrees, after it, with the longer history.
-use Rattle.std.specs.Prelude.{◌≡◌, refl, Bool, not, ◌&&◌, ◌||◌, List, [], ◌∷◌, ◌++◌, map, ℕ, suc, ◌+◌, ◌-◌, ◌≤◌, ◌<◌, T, leb, ℤ, length, take, set, replicate}
+use Rattle.std.specs.Prelude.{◌≡◌, refl, Bool, not, ◌&&◌, ◌||◌, List, [], ◌∷◌, ◌++◌, map, ℕ, suc, ◌+◌, ◌-◌, ◌≤◌, ◌<◌, T, leb, ℤ, length, take, set, replicate, if◌then◌else◌}
 use Rattle.std.proofs.Math.Path.{sym}
 use Rattle.std.proofs.Common.{ap, ◌∙◌, append_assoc, arith, add-one, length-append, take_at}
 use Rattle.std.proofs.Math.Bool.{true, false}
@@ -7,7 +7,7 @@ use Rattle.std.proofs.Math.Option.{Option, none, some, get_or}
 use borrow.Author.Tests.{leb-false}
 use Rattle.std.proofs.Math.Dec.{eqb, ltb, nltb→le, eqb→eq}
 use Rattle.std.proofs.Math.Seq.{set-append_seam}
-use Rattle.charts.specs.Tests.{if◌then◌else◌, if_yes, if_no}
+use Rattle.charts.specs.Tests.{if_yes, if_no}
 use Rattle.charts.specs.Charts.{blank, reset_of, applied_of}
 use Rattle.charts.proofs.ChartLaws.{Reading, differences, after_readings, charted}
 use Rattle.charts.specs.declared.Chart.{Chart}
@@ -193,9 +193,9 @@ chart_step c (q ∷ h) r e =
 
     go : (a b t : Bool) → (b ≡ true → t ≡ true)
         → (if a then reset_of (if t then after_readings s (reset_of blank) (map reading_of l) else blank)
-        else if b then applied_of (if t then after_readings s (reset_of blank) (map reading_of l) else blank) r.edition s (difference_of r.bytes)
-        else if t then after_readings s (reset_of blank) (map reading_of l) else blank)
-        ≡ (if (if a then true else t) then after_readings s (reset_of blank) (map reading_of (if a then [] else if b then r ∷ l else l)) else blank)
+        else (if b then applied_of (if t then after_readings s (reset_of blank) (map reading_of l) else blank) r.edition s (difference_of r.bytes)
+        else (if t then after_readings s (reset_of blank) (map reading_of l) else blank)))
+        ≡ (if (if a then true else t) then after_readings s (reset_of blank) (map reading_of (if a then [] else (if b then r ∷ l else l))) else blank)
     go true b t f = refl
     go false true true f = refl
     go false true false f = absurd (differ (sym (f refl)))
@@ -212,23 +212,23 @@ pad_one ws w l =
     (set-append_seam ws no_pair (replicate (30 - (length ws + 1)) no_pair) w ∙ sym (append_assoc ws (w ∷ []) (replicate (30 - (length ws + 1)) no_pair)))
 
 pending_step : (h : History) (r : Entry)
-    → (if empties r.bytes then 0 else if pairs r.bytes then length (pending_in h) + 1 else length (pending_in h)) ≡ length (pending_in (r ∷ h))
+    → (if empties r.bytes then 0 else (if pairs r.bytes then length (pending_in h) + 1 else length (pending_in h))) ≡ length (pending_in (r ∷ h))
 unfolding pending_in
 pending_step h r = go (empties r.bytes) (pairs r.bytes)
   where
-    go : (a b : Bool) → (if a then 0 else if b then length (pending_in h) + 1 else length (pending_in h)) ≡ length (if a then [] else if b then pending_in h ++ (waiting_of r.bytes ∷ []) else pending_in h)
+    go : (a b : Bool) → (if a then 0 else (if b then length (pending_in h) + 1 else length (pending_in h))) ≡ length (if a then [] else (if b then pending_in h ++ (waiting_of r.bytes ∷ []) else pending_in h))
     go true b = refl
     go false true = sym (length-append (pending_in h) (waiting_of r.bytes ∷ []))
     go false false = refl
 
 pairs_step : (h : History) (r : Entry) → refusal_of h r ≡ 0
-    → (if empties r.bytes then no_pairs else if pairs r.bytes then set (padded (pending_in h)) (length (pending_in h)) (waiting_of r.bytes) else padded (pending_in h)) ≡ padded (pending_in (r ∷ h))
+    → (if empties r.bytes then no_pairs else (if pairs r.bytes then set (padded (pending_in h)) (length (pending_in h)) (waiting_of r.bytes) else padded (pending_in h))) ≡ padded (pending_in (r ∷ h))
 unfolding pending_in no_pairs
 pairs_step h r e = go (empties r.bytes) (pairs r.bytes) (pair_fits h r e)
   where
     go : (a b : Bool) → (b ≡ true → length (pending_in h) < 30)
-        → (if a then replicate 30 no_pair else if b then set (padded (pending_in h)) (length (pending_in h)) (waiting_of r.bytes) else padded (pending_in h))
-        ≡ padded (if a then [] else if b then pending_in h ++ (waiting_of r.bytes ∷ []) else pending_in h)
+        → (if a then replicate 30 no_pair else (if b then set (padded (pending_in h)) (length (pending_in h)) (waiting_of r.bytes) else padded (pending_in h)))
+        ≡ padded (if a then [] else (if b then pending_in h ++ (waiting_of r.bytes ∷ []) else pending_in h))
     go true b f = refl
     go false true f = pad_one (pending_in h) (waiting_of r.bytes) (f refl)
     go false false f = refl
@@ -249,7 +249,7 @@ raised_twice Quiet m = refl
 raised_twice (Since x) m = refl
 
 demand_step : (h : History) (r : Entry)
-    → (if calibrates r.bytes then Quiet else if fails r.bytes || week_calls h r then raised_of (demand_of (first_call h)) (minute r.bytes) else demand_of (first_call h)) ≡ demand_of (first_call (r ∷ h))
+    → (if calibrates r.bytes then Quiet else (if fails r.bytes || week_calls h r then raised_of (demand_of (first_call h)) (minute r.bytes) else demand_of (first_call h))) ≡ demand_of (first_call (r ∷ h))
 unfolding first_call calls_in
 demand_step h r = go (calibrates r.bytes) (fails r.bytes) (week_calls h r)
   where
@@ -260,7 +260,7 @@ demand_step h r = go (calibrates r.bytes) (fails r.bytes) (week_calls h r)
     ms = calls_in h
 
     go : (a b w : Bool)
-        → (if a then Quiet else if b || w then raised_of (demand_of (oldest ms)) m else demand_of (oldest ms))
+        → (if a then Quiet else (if b || w then raised_of (demand_of (oldest ms)) m else demand_of (oldest ms)))
         ≡ demand_of (oldest (if a then [] else (if b then m ∷ [] else []) ++ (if w then m ∷ [] else []) ++ ms))
     go true b w = refl
     go false true true = sym (raised_first (m ∷ ms) m ∙ ap (λ (d : Demand). raised_of d m) (raised_first ms m) ∙ raised_twice (demand_of (oldest ms)) m)
@@ -312,7 +312,7 @@ agrees_after h st t A r d e = record {
     calls : turns_from st.minute (minute r.bytes) && judges st ≡ week_calls h r
     calls = judged_step h r st A
 
-    demands : (if calibrates r.bytes then Quiet else if fails r.bytes || turns_from st.minute (minute r.bytes) && judges st then raised_of st.demand (minute r.bytes) else st.demand) ≡ demand_of (first_call (r ∷ h))
+    demands : (if calibrates r.bytes then Quiet else (if fails r.bytes || turns_from st.minute (minute r.bytes) && judges st then raised_of st.demand (minute r.bytes) else st.demand)) ≡ demand_of (first_call (r ∷ h))
     demands = rw (calls, A.demand) (demand_step h r)
 
 -- ---- the beginning, and an initial state's agreement with the empty history

@@ -1,8 +1,8 @@
 -- What a state answers on alarms and usability is what the history says, where the two agree.
-use Rattle.std.specs.Prelude.{◌≡◌, refl, Bool, true, false, List, [], map, ℕ, ◌-◌, ◌≤◌}
+use Rattle.std.specs.Prelude.{◌≡◌, refl, Bool, true, false, List, [], map, ℕ, ◌-◌, ◌≤◌, if◌then◌else◌}
 use Rattle.std.proofs.Common.{arith}
 use Rattle.std.proofs.Math.Option.{Option, none, some}
-use Rattle.charts.specs.Tests.{if◌then◌else◌, Answers, answers_not, answers_and, answers_le, answers_as}
+use Rattle.charts.specs.Tests.{Answers, answers_not, answers_and, answers_le, answers_as}
 use Rattle.charts.specs.Charts.{blank, reset_of, alarms_of}
 use Rattle.charts.specs.Runs.{Alarm, rising, falling, precision, Stands}
 use Rattle.charts.proofs.ChartLaws.{Reading, after_readings, alarm_of, alarms_after, blank_answers}

@@ -5,7 +5,8 @@ use mathlib.Core.Logic.{◌⊎◌, inl, inr, ⊎_elim}
 use Prim.Native.Nat.{ℕ, zero, suc, ◌+◌, ◌≤◌}
 use native.Mathlib.Omega.{arith}
 use lib.Dec.{eqb}
-use Rattle.charts.specs.Tests.{if◌then◌else◌, if_all}
+use Rattle.std.specs.Prelude.{if◌then◌else◌}
+use Rattle.charts.specs.Tests.{if_all}
 use Rattle.records.specs.Record.{Record, kind, mark, minute, setting_of, waiting_of}
 use Rattle.records.specs.Kinds.{reads, resets, sets, pairs, empties, calibrates, passes, fails, counts, outside_by}
 use Rattle.records.specs.State.{chart_after, turns_from, judges, raised_of, applied_to}

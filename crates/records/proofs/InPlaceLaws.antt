@@ -5,7 +5,8 @@ use Prim.Native.Nat.{ℕ, ◌+◌}
 use lib.Dec.{eqb, leb}
 use lib.ListN.{length}
 use borrow.Author.Tests.{ne_eqb, eqb-true, leb-true, le-ltb}
-use Rattle.charts.specs.Tests.{if◌then◌else◌, and_both}
+use Rattle.std.specs.Prelude.{if◌then◌else◌}
+use Rattle.charts.specs.Tests.{and_both}
 use Rattle.charts.specs.Charts.{applied_of}
 use Rattle.charts.specs.declared.Chart.{Chart}
 use Rattle.records.specs.Record.{Record, kind, mark, minute, difference_of}

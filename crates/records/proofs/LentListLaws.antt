@@ -1,10 +1,10 @@
 -- Paper 01, 'Calibration (6.4, 6.5)', its last sentence, and paper 02, C-12: a calibration closing's figures are those of the lent list of the pairs that
 -- wait, told the edition of the closing's block. Only 21, which looks at times, is the closing's own.
-use Rattle.std.specs.Prelude.{◌≡◌, refl, Bool, true, false, not, ◌&&◌, ℕ, ℤ, length, take}
+use Rattle.std.specs.Prelude.{◌≡◌, refl, Bool, true, false, not, ◌&&◌, ℕ, ℤ, length, take, if◌then◌else◌}
 use Rattle.std.proofs.Common.{sym, ap, ◌∙◌}
 use mathlib.Core.List.{List, map}
 use Rattle.std.proofs.lemmas.List.{length-map}
-use Rattle.charts.specs.Tests.{if◌then◌else◌, if_no}
+use Rattle.charts.specs.Tests.{if_no}
 use Rattle.charts.specs.Rounding.{edition_known}
 use Rattle.calibration.specs.Pairs.{AllRanged, RequirementsRanged, ZRanged}
 use Rattle.calibration.specs.Calibration.{count_fits, refused_fit, fit_of}
@@ -33,7 +33,7 @@ list_of_waiting f z = fit_list_of (basis_of f) z (map pair_of_waiting f.pending)
 
 -- 20 and 21 ahead of an outcome that meets 20 itself
 ahead : (counted days : Bool) (x y : Fitted) → y ≡ x → (counted ≡ false → x ≡ refused_fit 20)
-    → (if not counted then refused_fit 20 else if not days then refused_fit 21 else x) ≡ (if counted && not days then refused_fit 21 else y)
+    → (if not counted then refused_fit 20 else (if not days then refused_fit 21 else x)) ≡ (if counted && not days then refused_fit 21 else y)
 ahead true true x y e h = sym e
 ahead true false x y e h = refl
 ahead false days x y e h = sym (e ∙ h refl)

@@ -1,10 +1,10 @@
 -- A fresh state is sound, and an accepted record keeps a state so.
-use Rattle.std.specs.Prelude.{◌≡◌, refl, Bool, true, false, not, ◌&&◌, List, [], ◌∷◌, map, ℕ, zero, suc, ◌+◌, ◌≤◌, ◌<◌, eqb, set}
+use Rattle.std.specs.Prelude.{◌≡◌, refl, Bool, true, false, not, ◌&&◌, List, [], ◌∷◌, map, ℕ, zero, suc, ◌+◌, ◌≤◌, ◌<◌, eqb, set, if◌then◌else◌}
 use Rattle.std.proofs.Common.{subst, ◌∙◌, arith, add-one, length-set}
 use Rattle.std.proofs.Math.Dec.{T}
 use Rattle.std.proofs.Math.ListN.{length, take, length-take, length-map}
 use Rattle.std.proofs.Math.Facts.{and_yes, eqb_yes}
-use Rattle.charts.specs.Tests.{if◌then◌else◌, if_all}
+use Rattle.charts.specs.Tests.{if_all}
 use Rattle.charts.specs.Soundness as C
 use Rattle.charts.specs.SoundnessLaws.{blank_sound, reset_sound, applied_sound as reading-sound}
 use Rattle.charts.specs.declared.Chart.{Chart}
@@ -106,7 +106,7 @@ added_sound (suc n) (v ∷ ws) A W = (A.0, added_sound n ws A.1 W)
 
 -- the pairs are dropped, or one is added, or they stay
 kept_sound : (e p : Bool) (n : ℕ) (ws : List Waiting) (w : Waiting) → AllSound (take n ws) → (T p → WaitingSound w)
-    → AllSound (take (if e then 0 else if p then n + 1 else n) (if e then no_pairs else if p then set ws n w else ws))
+    → AllSound (take (if e then 0 else (if p then n + 1 else n)) (if e then no_pairs else (if p then set ws n w else ws)))
 kept_sound true p n ws w A W = tt
 kept_sound false true n ws w A W = rw (add-one n) (added_sound n ws A (W tt))
 kept_sound false false n ws w A W = A
@@ -118,7 +118,7 @@ pairs_ranged (w ∷ ws) A = (A.0.pair, pairs_ranged ws A.1)
 -- ---- the tally
 
 -- at most one is counted
-counted : (passes turn counts : Bool) (n m : ℕ) → n ≤ m → (if passes then 0 else if counts then (if turn then 0 else n) + 1 else if turn then 0 else n) ≤ m + 1
+counted : (passes turn counts : Bool) (n m : ℕ) → n ≤ m → (if passes then 0 else (if counts then (if turn then 0 else n) + 1 else (if turn then 0 else n))) ≤ m + 1
 counted true turn counts n m h = omega arith
 counted false true true n m h = omega arith
 counted false true false n m h = omega arith
@@ -148,7 +148,7 @@ module _ (st : State) (r : Record) (A : Accepted (facts_of st) r) where
   setting_after S =
       if_all SettingSound (sets r) _ _ (λ t. setting_sound r (setting_ranged_lem r A.ranged (eqb_yes t))) (λ t. setting_known st r A.placed t S)
 
-  pending_after : length st.pairs ≡ 30 → st.pending ≤ 30 → (if empties r then 0 else if pairs r then st.pending + 1 else st.pending) ≤ 30
+  pending_after : length st.pairs ≡ 30 → st.pending ≤ 30 → (if empties r then 0 else (if pairs r then st.pending + 1 else st.pending)) ≤ 30
   unfolding pairs facts_of
   pending_after h S =
       if_all (λ (n : ℕ). n ≤ 30) (empties r) _ _ (λ t. omega arith)

@@ -1,7 +1,6 @@
 -- A state in step with a history stays so over any list of records, and both stop at the same record for the same reason.
-use Rattle.std.specs.Prelude.{◌≡◌, refl, Bool, true, false, List, [], ◌∷◌, ℕ, suc, ◌+◌, ◌≤◌, eqb, T, length}
+use Rattle.std.specs.Prelude.{◌≡◌, refl, Bool, true, false, List, [], ◌∷◌, ℕ, suc, ◌+◌, ◌≤◌, eqb, T, length, if◌then◌else◌}
 use Rattle.std.proofs.Common.{ap, ◌∙◌, arith, eqb→eq}
-use Rattle.charts.specs.Tests.{if◌then◌else◌}
 use Rattle.records.specs.Record.{Record}
 use Rattle.records.specs.History.{Entry, History, refusal_of}
 use Rattle.records.specs.State.{facts_of, applied_to}

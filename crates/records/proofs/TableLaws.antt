@@ -1,11 +1,11 @@
 -- What the table says of a record that it does not refuse.
-use Rattle.std.specs.Prelude.{◌≡◌, refl, Bool, true, false, not, ◌&&◌, List, map, ℕ, ◌-◌, ◌*◌, ◌≤◌, ◌<◌, T, leb, ltb, eqb, ℤ, pos, length}
+use Rattle.std.specs.Prelude.{◌≡◌, refl, Bool, true, false, not, ◌&&◌, List, map, ℕ, ◌-◌, ◌*◌, ◌≤◌, ◌<◌, T, leb, ltb, eqb, ℤ, pos, length, if◌then◌else◌}
 use Rattle.std.proofs.Common.{sym, ap, subst, ◌∙◌, arith, leb-false, eqb-true, ne_eqb}
 use Rattle.std.proofs.lemmas.Bool.{not-false, eqb-false}
 use Rattle.std.proofs.lemmas.List.{length-map}
 use Rattle.std.specs.Int.Signed.{le_z, le_z_yes}
 use Rattle.std.proofs.Math.Facts.{and_yes, or_no, leb_yes, ltb_no}
-use Rattle.charts.specs.Tests.{if◌then◌else◌, if_all}
+use Rattle.charts.specs.Tests.{if_all}
 use Rattle.charts.specs.Integers.{≤ℤ-antisymm}
 use Rattle.calibration.specs.Calibration.{count_fits, divisor_of, fit_from, fit_of, flat_of, line_fits, refused_fit, slope_of, slope_ranged_of, some_beyond, sums_of}
 use Rattle.calibration.specs.declared.Fitted.{Fitted}

@@ -1,8 +1,7 @@
 -- The state is the summary of the history: what it means that they agree. Each field is an equation, but for the analyser and the block
 -- number, which the history does not have, and the edition, since a block may be open with no record yet (paper 02, C-12).
-use Rattle.std.specs.Prelude.{◌≡◌, List, [], ◌∷◌, ◌++◌, map, ℕ, ◌-◌, length, replicate}
+use Rattle.std.specs.Prelude.{◌≡◌, List, [], ◌∷◌, ◌++◌, map, ℕ, ◌-◌, length, replicate, if◌then◌else◌}
 use Rattle.std.proofs.Math.Option.{Option, none, some}
-use Rattle.charts.specs.Tests.{if◌then◌else◌}
 use Rattle.charts.specs.Charts.{blank, reset_of}
 use Rattle.charts.proofs.ChartLaws.{Reading, after_readings}
 use Rattle.charts.specs.declared.Chart.{Chart}

@@ -2,9 +2,8 @@
 -- force, how many of a week's values count, and, of a next record with its own edition, which row refuses it and whether it is a value outside. Not among
 -- these are adjustments, the number of values outside, and what follows from that number: weeks over 5 %, calls, usable. They go by the editions of the
 -- records behind them.
-use Rattle.std.specs.Prelude.{◌≡◌, refl, Bool, true, false, ◌&&◌, List, [], ◌∷◌, ◌++◌, map, ℕ, suc, eqb}
+use Rattle.std.specs.Prelude.{◌≡◌, refl, Bool, true, false, ◌&&◌, List, [], ◌∷◌, ◌++◌, map, ℕ, suc, eqb, if◌then◌else◌}
 use Rattle.std.proofs.Common.{sym, ap, ◌∙◌}
-use Rattle.charts.specs.Tests.{if◌then◌else◌}
 use Rattle.charts.specs.Runs.{Alarm}
 use Rattle.records.specs.Lists.{since, those, any, those_since}
 use Rattle.records.specs.Record.{Record, setting_of, difference_of, waiting_of, function_of}
@@ -74,7 +73,7 @@ plain_those f p q (r ∷ h) =
     new = those (on p) (since (on q) (plain h))
 
     go : (a b : Bool) → map (on f) old ≡ map (on f) new
-        → map (on f) (if a then [] else if b then r ∷ old else old) ≡ map (on f) (if a then [] else if b then s ∷ new else new)
+        → map (on f) (if a then [] else (if b then r ∷ old else old)) ≡ map (on f) (if a then [] else (if b then s ∷ new else new))
     go true b e = refl
     go false true e = ap (λ l. f r.bytes ∷ l) e
     go false false e = e
@@ -87,7 +86,7 @@ plain_pending : (h : History) → pending_in h ≡ pending_in (plain h)
 unfolding pending_in
 plain_pending [] = refl
 plain_pending (r ∷ h) =
-    ap (λ (ws : List Waiting). if empties r.bytes then [] else if pairs r.bytes then ws ++ (waiting_of r.bytes ∷ []) else ws)
+    ap (λ (ws : List Waiting). if empties r.bytes then [] else (if pairs r.bytes then ws ++ (waiting_of r.bytes ∷ []) else ws))
     (plain_pending h)
 
 plain_function : (h : History) → function_in h ≡ function_in (plain h)
@@ -103,7 +102,7 @@ plain_total : (w : ℕ) (h : History) → total_in w h ≡ total_in w (plain h)
 unfolding total_in
 plain_total w [] = refl
 plain_total w (r ∷ h) =
-    ap (λ (n : ℕ). if passes r.bytes then 0 else if counts r.bytes && eqb (own_week r) w then suc n else n) (plain_total w h)
+    ap (λ (n : ℕ). if passes r.bytes then 0 else (if counts r.bytes && eqb (own_week r) w then suc n else n)) (plain_total w h)
 
 plain_facts : (e : ℕ) (h : History) → facts_in e h ≡ facts_in e (plain h)
 unfolding facts_in

@@ -1,9 +1,8 @@
 -- What the accepted records say, and nothing else: paper 01, 'Charts', 'Calibration', 'Weeks and calls (6.4.4)' and 'Usable', paper 02, C-11 to C-13,
 -- and the mission's statement 3.
 -- A history is the list of accepted records, each with the edition of its block, newest first, so that "since the last" is plain recursion.
-use Rattle.std.specs.Prelude.{◌≡◌, Bool, true, false, ◌&&◌, ◌||◌, List, [], ◌∷◌, ◌++◌, map, ℕ, zero, suc, ◌-◌, ◌≤◌, ltb, eqb, ℤ, length}
+use Rattle.std.specs.Prelude.{◌≡◌, Bool, true, false, ◌&&◌, ◌||◌, List, [], ◌∷◌, ◌++◌, map, ℕ, zero, suc, ◌-◌, ◌≤◌, ltb, eqb, ℤ, length, if◌then◌else◌}
 use Rattle.std.proofs.Math.Option.{Option, none, some, get_or}
-use Rattle.charts.specs.Tests.{if◌then◌else◌}
 use Rattle.charts.specs.Runs.{Alarm, Stands}
 use Rattle.records.specs.Lists.{since, those, any}
 use Rattle.records.specs.Record.{Record, minute, setting_of, difference_of, waiting_of, function_of}
@@ -57,8 +56,8 @@ unfoldable pub pending_in : History → List Waiting
 pending_in [] = []
 pending_in (r ∷ h) =
     if empties r.bytes then []
-    else if pairs r.bytes then pending_in h ++ (waiting_of r.bytes ∷ [])
-    else pending_in h
+    else (if pairs r.bytes then pending_in h ++ (waiting_of r.bytes ∷ [])
+    else pending_in h)
 
 -- the newest passed calibration, with its stored figures
 unfoldable pub function_in : History → Calibration
@@ -73,7 +72,7 @@ own_week r = week_of (minute r.bytes)
 -- of how many records of the period p holds, the period being what came after the last passed closing; p may look at the records before
 abbrev pub tally : (History → Entry → Bool) → History → ℕ
 tally p [] = 0
-tally p (r ∷ h) = if passes r.bytes then 0 else if p h r then suc (tally p h) else tally p h
+tally p (r ∷ h) = if passes r.bytes then 0 else (if p h r then suc (tally p h) else tally p h)
 
 -- a value that counts, of week w
 abbrev pub value_of_week : ℕ → History → Entry → Bool

@@ -1,7 +1,6 @@
 -- Paper 01, 'Records', 'Weeks and calls (6.4.4)', and paper 02, C-11 and C-12: which records do what, and when a value is outside.
-use Rattle.std.specs.Prelude.{Bool, false, not, ◌&&◌, ◌||◌, ℕ, ◌*◌, ◌/◌, eqb, ltb, pos}
+use Rattle.std.specs.Prelude.{Bool, false, not, ◌&&◌, ◌||◌, ℕ, ◌*◌, ◌/◌, eqb, ltb, pos, if◌then◌else◌}
 use Rattle.std.specs.Int.Signed.{lt_z}
-use Rattle.charts.specs.Tests.{if◌then◌else◌}
 use Rattle.calibration.specs.Calibration.{value_of}
 use Rattle.calibration.specs.declared.Line.{Line}
 use Rattle.calibration.specs.declared.Standard.{Standard}

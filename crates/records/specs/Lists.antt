@@ -1,6 +1,5 @@
 -- Parts of a list that has the newest first, and what one element more does to them.
-use Rattle.std.specs.Prelude.{◌≡◌, refl, Bool, true, false, List, [], ◌∷◌}
-use Rattle.charts.specs.Tests.{if◌then◌else◌}
+use Rattle.std.specs.Prelude.{◌≡◌, refl, Bool, true, false, List, [], ◌∷◌, if◌then◌else◌}
 
 module _ {A : Type 0} where
   -- the elements after the newest of which p holds; all where it holds of none
@@ -19,6 +18,6 @@ module _ {A : Type 0} where
   any p (r ∷ h) = if p r then true else any p h
 
   pub those_since : (p q : A → Bool) (r : A) (h : List A)
-      → those p (since q (r ∷ h)) ≡ (if q r then [] else if p r then r ∷ those p (since q h) else those p (since q h))
+      → those p (since q (r ∷ h)) ≡ (if q r then [] else (if p r then r ∷ those p (since q h) else those p (since q h)))
   those_since p q r h =
-      elim (q r) as (λ b. those p (if b then [] else r ∷ since q h) ≡ (if b then [] else if p r then r ∷ those p (since q h) else those p (since q h))) [ true ↦ refl | false ↦ refl ]
+      elim (q r) as (λ b. those p (if b then [] else r ∷ since q h) ≡ (if b then [] else (if p r then r ∷ those p (since q h) else those p (since q h)))) [ true ↦ refl | false ↦ refl ]

@@ -1,6 +1,5 @@
 -- Paper 01, 'Records', and paper 02, C-11: a record is forty bytes. What stands where, which bytes have to be zero, and which ranges the fields have.
-use Rattle.std.specs.Prelude.{Bool, true, ◌&&◌, ◌||◌, List, ℕ, ◌+◌, ◌-◌, ◌*◌, leb, ltb, eqb, ℤ, pos, negsuc, neg_ℤ, nat_abs, ◌-ℤ◌, drop}
-use Rattle.charts.specs.Tests.{if◌then◌else◌}
+use Rattle.std.specs.Prelude.{Bool, true, ◌&&◌, ◌||◌, List, ℕ, ◌+◌, ◌-◌, ◌*◌, leb, ltb, eqb, ℤ, pos, negsuc, neg_ℤ, nat_abs, ◌-ℤ◌, drop, if◌then◌else◌}
 use Rattle.calibration.specs.Pairs.{between_of, pair_ranged_of, conditions_ranged_of, requirements_ranged_of, z_ranged_of}
 use Rattle.calibration.specs.declared.Conditions.{Conditions}
 use Rattle.calibration.specs.declared.Pair.{Pair}
@@ -44,20 +43,20 @@ long_field r at = signed64 (le32 r at + 4294967296 * le32 r (at + 4))
 unfoldable pub mark_limit : ℕ → ℕ
 mark_limit k =
     if eqb k 2 || (eqb k 3 || (eqb k 5 || eqb k 7)) then 1
-    else if eqb k 6 then 3
-    else 0
+    else (if eqb k 6 then 3
+    else 0)
 
 -- the first byte past the fields of a kind: it and those after it are zero
 unfoldable pub fields_end : ℕ → ℕ
 fields_end k =
     if eqb k 1 then 32
-    else if eqb k 2 then 16
-    else if eqb k 3 then 8
-    else if eqb k 4 then 40
-    else if eqb k 5 then 32
-    else if eqb k 6 then 12
-    else if eqb k 7 then 28
-    else 8
+    else (if eqb k 2 then 16
+    else (if eqb k 3 then 8
+    else (if eqb k 4 then 40
+    else (if eqb k 5 then 32
+    else (if eqb k 6 then 12
+    else (if eqb k 7 then 28
+    else 8))))))
 
 -- a mark of at most so much, bytes 2 and 3 zero, and every byte from a place on
 unfoldable pub plain_of : ℕ → ℕ → Record → Bool
@@ -134,8 +133,8 @@ value_ranged r = between_of (pos 0) (pos 400000) (signal_of r) && conditions_ran
 unfoldable pub ranged_of : Record → Bool
 ranged_of r =
     if eqb (kind r) 1 then setting_ranged r
-    else if eqb (kind r) 2 then reading_ranged r
-    else if eqb (kind r) 4 then waiting_ranged r
-    else if eqb (kind r) 5 then z_ranged_of (z_of r)
-    else if eqb (kind r) 7 then value_ranged r
-    else true
+    else (if eqb (kind r) 2 then reading_ranged r
+    else (if eqb (kind r) 4 then waiting_ranged r
+    else (if eqb (kind r) 5 then z_ranged_of (z_of r)
+    else (if eqb (kind r) 7 then value_ranged r
+    else true))))

@@ -1,7 +1,6 @@
 -- The state (paper 01: the standing): its beginning, its refusal of a record, and what an accepted record makes of it. Its edition (paper 02, C-12) is
 -- that of the block in which the next record stands, and between blocks that of the last one: 0 before the first, which rounds as 1 does.
-use Rattle.std.specs.Prelude.{Bool, true, false, ◌&&◌, ◌||◌, List, ℕ, ◌+◌, eqb, ltb, pos, take, set, replicate}
-use Rattle.charts.specs.Tests.{if◌then◌else◌}
+use Rattle.std.specs.Prelude.{Bool, true, false, ◌&&◌, ◌||◌, List, ℕ, ◌+◌, eqb, ltb, pos, take, set, replicate, if◌then◌else◌}
 use Rattle.charts.specs.Charts.{blank, reset_of, applied_of}
 use Rattle.charts.specs.declared.Chart.{Chart}
 use Rattle.records.specs.Record.{Record, minute, setting_of, difference_of, waiting_of, function_of}
@@ -68,8 +67,8 @@ facts_of st = record {
 unfoldable pub chart_after : ℕ → Point → Setting → Record → Chart → Chart
 chart_after edition c s r k =
     if resets c r then reset_of k
-    else if reads c r then applied_of k edition (deviation_of c s) (difference_of r)
-    else k
+    else (if reads c r then applied_of k edition (deviation_of c s) (difference_of r)
+    else k)
 
 -- the record is of a later week than the last one
 abbrev pub turns_from : ℕ → ℕ → Bool
@@ -98,13 +97,13 @@ applied_to st r =
       setting = if sets r then setting_of r else st.setting;
       zero = chart_after st.edition at_zero st.setting r st.zero;
       span = chart_after st.edition at_span st.setting r st.span;
-      pending = if empties r then 0 else if pairs r then st.pending + 1 else st.pending;
-      pairs = if empties r then no_pairs else if pairs r then set st.pairs st.pending (waiting_of r) else st.pairs;
+      pending = if empties r then 0 else (if pairs r then st.pending + 1 else st.pending);
+      pairs = if empties r then no_pairs else (if pairs r then set st.pairs st.pending (waiting_of r) else st.pairs);
       calibration = if calibrates r then InForce (function_of r) else st.calibration;
-      total = if passes r then 0 else if counts r then total + 1 else total;
-      outside = if passes r then 0 else if counts r && outside_by st.edition st.calibration st.setting r then outside + 1 else outside;
-      over = if passes r then 0 else if turn && exceeds 5 st.outside st.total then st.over + 1 else st.over;
-      demand = if calibrates r then Quiet else if fails r || turn && judges st then raised_of st.demand (minute r) else st.demand;
+      total = if passes r then 0 else (if counts r then total + 1 else total);
+      outside = if passes r then 0 else (if counts r && outside_by st.edition st.calibration st.setting r then outside + 1 else outside);
+      over = if passes r then 0 else (if turn && exceeds 5 st.outside st.total then st.over + 1 else st.over);
+      demand = if calibrates r then Quiet else (if fails r || turn && judges st then raised_of st.demand (minute r) else st.demand);
       edition = st.edition;
     }
 

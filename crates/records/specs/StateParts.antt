@@ -1,6 +1,5 @@
 -- The steps in which the code makes the state after a record: the week first, then what the record's kind changes.
-use Rattle.std.specs.Prelude.{Bool, true, ◌&&◌, List, ℕ, ◌+◌, eqb, set}
-use Rattle.charts.specs.Tests.{if◌then◌else◌}
+use Rattle.std.specs.Prelude.{Bool, true, ◌&&◌, List, ℕ, ◌+◌, eqb, set, if◌then◌else◌}
 use Rattle.charts.specs.Charts.{reset_of, applied_of}
 use Rattle.charts.specs.declared.Chart.{Chart}
 use Rattle.records.specs.Record.{Record, mark, minute, difference_of, function_of}

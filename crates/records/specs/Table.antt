@@ -1,10 +1,9 @@
 -- Paper 01, 'Where input is stopped', rows 10 to 25, with the times, coverage, days and span of 'Calibration (6.4, 6.5)', and paper 02, C-12 and C-13.
 -- The rows ask certain facts of the records before, and the edition of the record's own block; they are the same whether read from a history or from a
 -- state.
-use Rattle.std.specs.Prelude.{Bool, true, false, not, ◌&&◌, ◌||◌, List, [], ◌∷◌, map, ℕ, suc, ◌+◌, ◌-◌, ◌*◌, leb, ltb, eqb, ℤ, pos, length}
+use Rattle.std.specs.Prelude.{Bool, true, false, not, ◌&&◌, ◌||◌, List, [], ◌∷◌, map, ℕ, suc, ◌+◌, ◌-◌, ◌*◌, leb, ltb, eqb, ℤ, pos, length, if◌then◌else◌}
 use Rattle.std.proofs.Math.Option.{Option, none, some}
 use Rattle.std.specs.Int.Signed.{le_z}
-use Rattle.charts.specs.Tests.{if◌then◌else◌}
 use Rattle.calibration.specs.Calibration.{count_fits, fit_of, refused_fit}
 use Rattle.calibration.specs.Annual.{test_of, refused_test}
 use Rattle.calibration.specs.declared.Pair.{Pair}
@@ -48,8 +47,8 @@ untimely f r = ltb (minute r) f.minute || ltb 100000000 (minute r)
 unfoldable pub chart_refusal : Bool → ℕ → ℕ
 chart_refusal started readings =
     if not started then 14
-    else if leb 100000 readings then 15
-    else 0
+    else (if leb 100000 readings then 15
+    else 0)
 
 unfoldable pub reading_refusal : Facts → Record → ℕ
 reading_refusal f r =
@@ -80,9 +79,9 @@ times_fit f r =
 unfoldable pub pair_refusal : Facts → Record → ℕ
 pair_refusal f r =
     if leb 30 (length f.pending) then 18
-    else if not (times_fit f r) then 16
-    else if le_z (coverage_of r) (pos 90) then 17
-    else 0
+    else (if not (times_fit f r) then 16
+    else (if le_z (coverage_of r) (pos 90) then 17
+    else 0))
 
 -- ---- 19 of an annual closing, 20 to 24
 
@@ -117,8 +116,8 @@ pair_of_waiting w = w.pair
 unfoldable pub calibration_of : Facts → ℤ → Fitted
 calibration_of f z =
     if not (count_fits (length f.pending)) then refused_fit 20
-    else if not (days_fit f.pending) then refused_fit 21
-    else fit_of f.edition f.setting.requirements z (map pair_of_waiting f.pending)
+    else (if not (days_fit f.pending) then refused_fit 21
+    else fit_of f.edition f.setting.requirements z (map pair_of_waiting f.pending))
 
 -- an annual closing: 19, then the test's refusals, or its verdicts
 unfoldable pub annual_by : Calibration → Facts → Tested
@@ -147,8 +146,8 @@ unfoldable pub calibration_refusal : Facts → Record → ℕ
 calibration_refusal f r =
     let c : Fitted = calibration_of f (z_of r) in
     if not (eqb c.refusal 0) then c.refusal
-    else if not (stores_fit c r) then 25
-    else 0
+    else (if not (stores_fit c r) then 25
+    else 0)
 
 -- the mark of an annual closing: a bit for each verdict
 abbrev pub test_mark : Tested → ℕ
@@ -161,8 +160,8 @@ unfoldable pub annual_refusal : Facts → Record → ℕ
 annual_refusal f r =
     let t : Tested = annual_of f in
     if not (eqb t.refusal 0) then t.refusal
-    else if not (stores_test t (length f.pending) r) then 25
-    else 0
+    else (if not (stores_test t (length f.pending) r) then 25
+    else 0)
 
 -- ---- 19 for a value
 
@@ -178,16 +177,16 @@ value_refusal f = if in_force f.calibration then 0 else 19
 unfoldable pub kind_refusal : Facts → Record → ℕ
 kind_refusal f r =
     if eqb (kind r) 2 then reading_refusal f r
-    else if eqb (kind r) 4 then pair_refusal f r
-    else if eqb (kind r) 5 then calibration_refusal f r
-    else if eqb (kind r) 6 then annual_refusal f r
-    else if eqb (kind r) 7 then value_refusal f
-    else 0
+    else (if eqb (kind r) 4 then pair_refusal f r
+    else (if eqb (kind r) 5 then calibration_refusal f r
+    else (if eqb (kind r) 6 then annual_refusal f r
+    else (if eqb (kind r) 7 then value_refusal f
+    else 0))))
 
 unfoldable pub refusal_in : Facts → Record → ℕ
 refusal_in f r =
     if not (formed_of r) then 10
-    else if misplaced f r then 11
-    else if untimely f r then 12
-    else if not (ranged_of r) then 13
-    else kind_refusal f r
+    else (if misplaced f r then 11
+    else (if untimely f r then 12
+    else (if not (ranged_of r) then 13
+    else kind_refusal f r)))

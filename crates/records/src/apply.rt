@@ -1,6 +1,5 @@
 // What an accepted record makes of the state.
-ghost use Rattle.std.specs.Prelude.{◌≡◌, true, false, ◌+◌, ◌<◌, ◌≤◌, length};
-ghost use Rattle.charts.specs.Tests.{if◌then◌else◌};
+ghost use Rattle.std.specs.Prelude.{◌≡◌, true, false, ◌+◌, ◌<◌, ◌≤◌, length, if◌then◌else◌};
 ghost use Rattle.charts.specs.Soundness.{Sound as Charts-as-Sound};
 ghost use Rattle.records.specs.Record.{reading_ranged, value_ranged};
 ghost use Rattle.records.specs.Kinds.{exceeds as Kinds·exceeds, outside_by};

@@ -1,6 +1,5 @@
 // Where a record is stopped: the rows that ask of the records before it.
-ghost use Rattle.std.specs.Prelude.{◌≡◌, true, false, not, map, ◌+◌, ◌-◌, ◌*◌, ◌<◌, ◌≤◌, length, take, drop};
-ghost use Rattle.charts.specs.Tests.{if◌then◌else◌};
+ghost use Rattle.std.specs.Prelude.{◌≡◌, true, false, not, map, ◌+◌, ◌-◌, ◌*◌, ◌<◌, ◌≤◌, length, take, drop, if◌then◌else◌};
 ghost use Rattle.records.specs.Record.{kind, length_of, minute, ranged_of, waiting_ranged};
 ghost use Rattle.records.specs.Kinds.{response_of, sets};
 ghost use Rattle.records.specs.Soundness.{AllSound, SettingSound, Sound};

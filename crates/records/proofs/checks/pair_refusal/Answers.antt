@@ -10,7 +10,7 @@ use mir.Syntax.{w32}
 use mir.Val.{to_z, of_z}
 use borrow.Author.Tests.{le-leb, lt-leb}
 use borrow.Author.Rules.{rules}
-use Rattle.charts.specs.Tests.{if◌then◌else◌}
+use Rattle.std.specs.Prelude.{if◌then◌else◌}
 use Rattle.charts.specs.SignedLocals.{arg, lit, le_flag}
 use Rattle.records.specs.Record.{field, coverage_of}
 use Rattle.records.specs.Table.{pair_refusal, times_fit}
@@ -30,7 +30,7 @@ whole : (c : Start) {full fit low : Bool}
     → let st = c.args.st in
     let r = c.args.r.now in
     leb 30 st.pending ≡ full → times_fit (facts_of st) r ≡ fit → le_z (field r 12) (pos 90) ≡ low
-    → pair_refusal (facts_of st) r ≡ (if full then 18 else if not fit then 16 else if low then 17 else 0)
+    → pair_refusal (facts_of st) r ≡ (if full then 18 else (if not fit then 16 else (if low then 17 else 0)))
 unfolding pair_refusal facts_of coverage_of
 whole c e f g =
     let st = c.args.st in

@@ -1,7 +1,7 @@
 -- `checks::value_refusal` meets its contract.
 use mathlib.Core.Path.{sym, ap}
 use Prim.Native.Nat.{ℕ}
-use Rattle.charts.specs.Tests.{if◌then◌else◌}
+use Rattle.std.specs.Prelude.{if◌then◌else◌}
 use Rattle.records.specs.declared.state.Calibration.{Calibration}
 use Rattle.records.specs.Table.{value_refusal, in_force}
 use Rattle.records.specs.State.{facts_of}

@@ -8,7 +8,7 @@ use lib.ListN.{length}
 use lib.Seq.{length-take-le}
 use borrow.Author.Tests.{eq-eqb, ne_eqb}
 use borrow.Author.Rules.{rules}
-use Rattle.charts.specs.Tests.{if◌then◌else◌}
+use Rattle.std.specs.Prelude.{if◌then◌else◌}
 use Rattle.calibration.specs.declared.Tested.{Tested}
 use Rattle.records.specs.Record.{Record}
 use Rattle.records.specs.Table.{Facts, annual_of, annual_refusal, stores_test}
@@ -24,12 +24,12 @@ At-After-stores_test = lts.After-stores_test tie.the-claims reads.Pre reads.Post
 
 -- the definition by its two tests
 whole : (f : Facts) (r : Record) (t : Tested) {none stores : Bool} → t ≡ annual_of f → eqb t.refusal 0 ≡ none → stores_test t (length f.pending) r ≡ stores
-    → annual_refusal f r ≡ (if not none then t.refusal else if not stores then 25 else 0)
+    → annual_refusal f r ≡ (if not none then t.refusal else (if not stores then 25 else 0))
 unfolding annual_refusal
 whole f r t {none} e p q =
-    ap (λ (u : Tested). if not (eqb u.refusal 0) then u.refusal else if not (stores_test u (length f.pending) r) then 25 else 0) (sym e)
-    ∙ ap (λ (b : Bool). if not b then t.refusal else if not (stores_test t (length f.pending) r) then 25 else 0) p
-    ∙ ap (λ (b : Bool). if not none then t.refusal else if not b then 25 else 0) q
+    ap (λ (u : Tested). if not (eqb u.refusal 0) then u.refusal else (if not (stores_test u (length f.pending) r) then 25 else 0)) (sym e)
+    ∙ ap (λ (b : Bool). if not b then t.refusal else (if not (stores_test t (length f.pending) r) then 25 else 0)) p
+    ∙ ap (λ (b : Bool). if not none then t.refusal else (if not b then 25 else 0)) q
 
 pub annual_result-t-requires : goal.annual_result-t-requires
 annual_result-t-requires c = search rules

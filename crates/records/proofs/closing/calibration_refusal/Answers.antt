@@ -9,7 +9,7 @@ use mir.Syntax.{w32}
 use mir.Val.{to_z, of_z}
 use borrow.Author.Tests.{eq-eqb, ne_eqb}
 use borrow.Author.Rules.{rules}
-use Rattle.charts.specs.Tests.{if◌then◌else◌}
+use Rattle.std.specs.Prelude.{if◌then◌else◌}
 use Rattle.calibration.specs.Pairs.{ZRanged}
 use Rattle.calibration.specs.declared.Fitted.{Fitted}
 use Rattle.records.specs.Record.{Record, z_of}
@@ -34,12 +34,12 @@ At-After-stores_fit = lts.After-stores_fit tie.the-claims reads.Pre reads.Post
 
 -- the definition by its two tests
 whole : (f : Facts) (r : Record) (c : Fitted) {none stores : Bool} → c ≡ calibration_of f (z_of r) → eqb c.refusal 0 ≡ none → stores_fit c r ≡ stores
-    → calibration_refusal f r ≡ (if not none then c.refusal else if not stores then 25 else 0)
+    → calibration_refusal f r ≡ (if not none then c.refusal else (if not stores then 25 else 0))
 unfolding calibration_refusal
 whole f r c {none} e p q =
-    ap (λ (u : Fitted). if not (eqb u.refusal 0) then u.refusal else if not (stores_fit u r) then 25 else 0) (sym e)
-    ∙ ap (λ (b : Bool). if not b then c.refusal else if not (stores_fit c r) then 25 else 0) p
-    ∙ ap (λ (b : Bool). if not none then c.refusal else if not b then 25 else 0) q
+    ap (λ (u : Fitted). if not (eqb u.refusal 0) then u.refusal else (if not (stores_fit u r) then 25 else 0)) (sym e)
+    ∙ ap (λ (b : Bool). if not b then c.refusal else (if not (stores_fit c r) then 25 else 0)) p
+    ∙ ap (λ (b : Bool). if not none then c.refusal else (if not b then 25 else 0)) q
 
 z-is : (c : At-After-field_at) → to_z w32 (of_z w32 c.field_at.result) ≡ z_of c.before.before.args.r.now
 unfolding z_of

@@ -10,7 +10,7 @@ use mir.Syntax.{w32}
 use mir.Val.{to_z, of_z}
 use mir.Facts.{to_z-of_z}
 use borrow.Author.Rules.{rules}
-use Rattle.charts.specs.Tests.{if◌then◌else◌}
+use Rattle.std.specs.Prelude.{if◌then◌else◌}
 use Rattle.calibration.specs.Pairs.{AllRanged}
 use Rattle.calibration.specs.Calibration.{count_fits, fit_of, refused_fit}
 use Rattle.calibration.proofs.VerdictLaws.{count_above}
@@ -37,7 +37,7 @@ module _ (s : Start) where
   -- the definition by its two tests
   whole : {few fit : Bool} → count_fits s.args.st.pending ≡ few → days_fit ws ≡ fit
       → calibration_of (facts_of s.args.st) s.args.z
-      ≡ (if not few then refused_fit 20 else if not fit then refused_fit 21 else fit_of s.args.st.edition s.args.st.setting.requirements s.args.z (map pair_of_waiting ws))
+      ≡ (if not few then refused_fit 20 else (if not fit then refused_fit 21 else fit_of s.args.st.edition s.args.st.setting.requirements s.args.z (map pair_of_waiting ws)))
   unfolding calibration_of facts_of
   whole e f = rw (counted, e, f)
 

@@ -2,7 +2,7 @@
 use mathlib.Core.Path.{◌≡◌, sym, ap, ◌∙◌}
 use mathlib.Core.Bool.{Bool}
 use Prim.Native.Nat.{◌+◌}
-use Rattle.charts.specs.Tests.{if◌then◌else◌}
+use Rattle.std.specs.Prelude.{if◌then◌else◌}
 use Rattle.calibration.specs.declared.Tested.{Tested}
 use Rattle.records.specs.Table.{test_mark}
 use Rattle.records.proofs.closing.test_mark.Goals as goal

@@ -2,7 +2,7 @@
 use borrow.Author.Rules.{rules}
 use mathlib.Core.Path.{◌≡◌, refl, sym, ◌∙◌}
 use mathlib.Core.Bool.{Bool, true, false, not}
-use Rattle.charts.specs.Tests.{if◌then◌else◌}
+use Rattle.std.specs.Prelude.{if◌then◌else◌}
 use Rattle.records.specs.Record.{Record, formed_of, ranged_of}
 use Rattle.records.specs.Table.{Facts, misplaced, untimely, kind_refusal, refusal_in}
 use Rattle.records.specs.State.{facts_of}
@@ -26,7 +26,7 @@ At-Else-untimely = lts.Else3 tie.the-claims reads.Pre reads.Post
 -- the definition by its four tests
 whole : (f : Facts) (r : Record) {formed placed timed ranged : Bool}
     → formed_of r ≡ formed → misplaced f r ≡ placed → untimely f r ≡ timed → ranged_of r ≡ ranged
-    → refusal_in f r ≡ (if not formed then 10 else if placed then 11 else if timed then 12 else if not ranged then 13 else kind_refusal f r)
+    → refusal_in f r ≡ (if not formed then 10 else (if placed then 11 else (if timed then 12 else (if not ranged then 13 else kind_refusal f r))))
 unfolding refusal_in
 whole f r a b c d = rw (a, b, c, d)
 
