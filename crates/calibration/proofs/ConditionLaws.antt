@@ -119,11 +119,3 @@ measured_bound edition {reference} {p} R P = standard_bound edition reference p.
 
 pub c_bound : (edition : ℕ) {reference : ℤ} {l : Line} {p : Pair} → OxygenRanged reference → LineRanged l → PairRanged p → nat_abs (c_of edition reference l p).0 ≤ 672000000
 c_bound edition {reference} {l} {p} R L P = value_bound edition reference l p.conditions p.signal R L P.conditions P.signal
-
--- ---- the range of a function, as a test
-pub line_answers : (l : Line) → Answers (line_ranged_of l) (LineRanged l)
-unfolding line_ranged_of
-line_answers l =
-    answers_as (answers_and (between_answers (pos 1) (pos 1000000) l.slope) (between_answers (neg_ℤ (pos 400000000000)) (pos 400000000000) l.intercept))
-    (λ p. record { slope = p.0; intercept = p.1 })
-    (λ r. (r.slope, r.intercept))

@@ -9,3 +9,4 @@ pub mod ListLaws
 pub mod SpanLaws
 pub mod DispersionLaws
 pub mod LentListLaws
+pub mod ConditionLaws

@@ -3,7 +3,7 @@ use Rattle.std.specs.Prelude.{◌≡◌, refl, true, false, List, [], ◌∷◌,
 use Rattle.charts.specs.Rounding.{odd, rounds_up, near_of}
 use Rattle.charts.specs.Sums.{empty, added}
 use Rattle.charts.specs.Charts.{alarms_of, adjustment_of, blank, reset_of, applied_of}
-use Rattle.charts.proofs.ChartLaws.{after_readings}
+use Rattle.charts.specs.ChartLaws.{after_readings}
 use Rattle.charts.specs.declared.Chart.{Chart}
 use Rattle.charts.specs.declared.Alarms.{Alarms}
 

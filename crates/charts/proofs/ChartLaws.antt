@@ -7,41 +7,11 @@ use Rattle.charts.proofs.StandingLaws.{stands_from, run_length, run_some, run_th
 use Rattle.charts.specs.Sums.{empty, added}
 use Rattle.charts.specs.Charts.{rising_term, falling_term, precision_term, drift_limit, precision_limit, over, alarms_of, adjustment_of, blank, reset_of, applied_of}
 use Rattle.charts.specs.Runs.{Alarm, rising, falling, precision, RunOver, newest, drift_term, terms, limit_of, Stands}
+use Rattle.charts.specs.ChartLaws.{Reading, differences, after_readings, sum_of, alarm_of, Charted}
 use Rattle.charts.specs.RunLaws.{summed, Shows, shows, over_answers}
 use Rattle.charts.specs.declared.Sum.{Sum}
 use Rattle.charts.specs.declared.Chart.{Chart}
 use Rattle.charts.specs.declared.Alarms.{Alarms}
-
--- a reading as a chart takes it: its difference, and the edition of its block, which rounds the adjustments
-pub record Reading : Type 0 where
-  pub edition : ℕ
-  pub difference : ℤ
-
--- all that the alarms look at
-abbrev pub differences : List Reading → List ℤ
-differences rs = map (λ (r : Reading). r.difference) rs
-
--- the chart after readings, newest first
-unfoldable pub after_readings : ℕ → Chart → List Reading → Chart
-after_readings s c [] = c
-after_readings s c (r ∷ rs) = applied_of (after_readings s c rs) r.edition s r.difference
-
-abbrev pub sum_of : Alarm → Chart → Sum
-sum_of rising c = c.rising
-sum_of falling c = c.falling
-sum_of precision c = c.precision
-
-abbrev pub alarm_of : Alarm → Alarms → Bool
-alarm_of rising a = a.rising
-alarm_of falling a = a.falling
-alarm_of precision a = a.precision
-
--- what the chart is after a reset and these readings; its adjustments follow from its sums
-pub record Charted (s : ℕ) (ds : List ℤ) (c : Chart) : Type 0 where
-  pub started : c.started ≡ true
-  pub readings : c.readings ≡ length ds
-  pub last : c.last ≡ newest ds
-  pub sums : (a : Alarm) → sum_of a c ≡ summed (terms a s ds)
 
 pub reset_charted : (s : ℕ) (c : Chart) → Charted s [] (reset_of c)
 unfolding reset_of summed

@@ -7,6 +7,7 @@ pub mod Sums
 pub mod Charts
 pub mod Runs
 pub mod RunLaws
+pub mod ChartLaws
 pub mod Soundness
 pub mod SoundnessLaws
 pub mod CodeLaws

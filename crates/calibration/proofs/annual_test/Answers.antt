@@ -96,9 +96,6 @@ returns-then-not-annual_count_fits c =
     let s = k.before in
     sym (test_unfit s.args.edition s.args.q s.args.l (ps s) (ap annual_count_fits (counted s) ∙ sym k.annual_count_fits.ensures ∙ c.if-not-annual_count_fits.true))
 
-pub beyond-requires : goal.beyond-requires
-beyond-requires c = search rules
-
 pub returns-then-beyond : goal.returns-then-beyond
 returns-then-beyond c =
     let b = c.before in
@@ -126,9 +123,6 @@ overflow_mul-n c = omega (arith, pairs c.before.before.before)
 
 pub overflow_mul-n-2 : goal.overflow_mul-n-2
 overflow_mul-n-2 c = omega (arith, pairs c.before.before.before)
-
-pub annual_k_factor-requires : goal.annual_k_factor-requires
-annual_k_factor-requires c = search rules
 
 pub varied-requires : goal.varied-requires
 varied-requires c =

@@ -48,38 +48,17 @@ tested c = rw (c.before.before.far.ensures, c.before.before.before.measured.ensu
 pub loop-i-init : goal.loop-i-init
 loop-i-init c = (omega arith, refl)
 
-pub overflow_cast-p : goal.overflow_cast-p
-overflow_cast-p c = search rules
-
-pub offset_bounds-pairs-i : goal.offset_bounds-pairs-i
-offset_bounds-pairs-i c = search rules
-
-pub bounds-pairs-i : goal.bounds-pairs-i
-bounds-pairs-i c = search rules
-
 pub measured-requires : goal.measured-requires
 measured-requires c = let t = c.before in let s = t.before.before in (rw (back s) s.requires.2, ranged t)
 
-pub far-requires : goal.far-requires
-far-requires c = search rules
-
 pub fitted_value-requires : goal.fitted_value-requires
 fitted_value-requires c = let t = c.before.before.before in let s = t.before.before in (rw (back s) s.requires.2, s.requires.3, ranged t)
-
-pub far-requires-in-loop-i : goal.far-requires-in-loop-i
-far-requires-in-loop-i c = search rules
 
 pub returns-then-far : goal.returns-then-far
 returns-then-far c =
     let t = c.before.before.before.before.before.before in
     let found = rw (tested c.before ∙ c.if-far.true) at (turn t) in
     rw (back t.before.before) at found
-
-pub overflow_add-i : goal.overflow_add-i
-overflow_add-i c = search rules
-
-pub loop-i-smaller : goal.loop-i-smaller
-loop-i-smaller c = search rules
 
 pub loop-i-preserved : goal.loop-i-preserved
 loop-i-preserved c =

@@ -20,26 +20,14 @@ fits c = search rules
 pub overflow_cast-k : goal.overflow_cast-k
 overflow_cast-k c = wide_need (fits c.before).0
 
-pub between-requires : goal.between-requires
-between-requires c = search rules
-
 pub overflow_cast-k-2 : goal.overflow_cast-k-2
 overflow_cast-k-2 c = wide_need (fits c.before.before.before.before).1
-
-pub between-requires-2 : goal.between-requires-2
-between-requires-2 c = search rules
 
 pub overflow_cast-k-3 : goal.overflow_cast-k-3
 overflow_cast-k-3 c = wide_need (fits c.before.before.before.before.before.before.before).2
 
-pub between-requires-3 : goal.between-requires-3
-between-requires-3 c = search rules
-
 pub overflow_cast-k-4 : goal.overflow_cast-k-4
 overflow_cast-k-4 c = wide_need (fits c.before.before.before.before.before.before.before.before.before).3
-
-pub between-requires-4 : goal.between-requires-4
-between-requires-4 c = search rules
 
 pub returns : goal.returns
 unfolding conditions_ranged_of

@@ -26,20 +26,8 @@ module _ (c : After-t_factor-t) where
   rest-small : c.t_factor-t.result * c.t_factor-t.result * (c.before.args.q % 1000000) ≤ 9000000000000
   rest-small = mul-le-mul {n₂ = 9000000} {m₂ = 1000000} t-small (omega arith)
 
-pub t_factor-t-requires : goal.t_factor-t-requires
-t_factor-t-requires c = search rules
-
-pub overflow_cast-t : goal.overflow_cast-t
-overflow_cast-t c = search rules
-
 pub overflow_mul-tt : goal.overflow_mul-tt
 overflow_mul-tt c = omega (arith, t-small c)
-
-pub overflow_sub-result : goal.overflow_sub-result
-overflow_sub-result c = search rules
-
-pub overflow_cast-result : goal.overflow_cast-result
-overflow_cast-result c = search rules
 
 pub overflow_mul-result : goal.overflow_mul-result
 overflow_mul-result c = omega (arith, l-small c.before)

@@ -43,9 +43,6 @@ module _ (c : Start) where
 abbrev start : After-struct_told-2-1 → Start
 start c = c.before.before.before.before
 
-pub overflow_cast-result : goal.overflow_cast-result
-overflow_cast-result c = search rules
-
 pub overflow_mul-result : goal.overflow_mul-result
 overflow_mul-result c = let s = c.before.before.before in mul_need (N s) (Q s) (NQ s).fit
 

@@ -47,9 +47,6 @@ module _ (c : Start) where
       let U = c.requires.0 in
       sub NXX P (abs_sfits (omega (arith, apart (product_between (n_ranged U) (xx_ranged U)) (product_between (x_ranged U) (x_ranged U)))))
 
-pub overflow_cast-result : goal.overflow_cast-result
-overflow_cast-result c = search rules
-
 pub overflow_cast-result-then-flat : goal.overflow_cast-result-then-flat
 overflow_cast-result-then-flat c = wide_need c.before.before.ranges.z
 
@@ -65,9 +62,6 @@ returns-then-flat c =
     let t = c.before.before.before in
     let s = t.before in
     (D₁ s).reads ∙ sym (ap (λ (b : Bool). divisor_of b s.args.u s.args.z) t.if-flat.true)
-
-pub overflow_cast-result-2 : goal.overflow_cast-result-2
-overflow_cast-result-2 c = search rules
 
 pub overflow_mul-result-2 : goal.overflow_mul-result-2
 overflow_mul-result-2 c = let s = c.before.before.before.before.before in mul_need (N s) (XX s) (NXX s).fit

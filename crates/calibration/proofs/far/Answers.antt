@@ -16,8 +16,5 @@ fits c = search rules
 pub overflow_cast-v : goal.overflow_cast-v
 overflow_cast-v c = wide_need (fits c)
 
-pub between-requires : goal.between-requires
-between-requires c = search rules
-
 pub returns : goal.returns
 returns c = ap not (wide_between (neg_ℤ (pos 10000000)) (pos 10000000) (fits c.before) c.between.ensures)

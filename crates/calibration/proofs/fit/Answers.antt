@@ -40,21 +40,12 @@ module _ (c : Start) where
 fits : (c : Else-not-count_fits) → count_fits c.before.before.args.n ≡ true
 fits c = sym c.before.count_fits.ensures ∙ c.if-not-count_fits.false
 
-pub count_fits-requires : goal.count_fits-requires
-count_fits-requires c = search rules
-
-pub refused_fit-requires : goal.refused_fit-requires
-refused_fit-requires c = search rules
-
 pub returns-then-not-count_fits : goal.returns-then-not-count_fits
 returns-then-not-count_fits c =
     let k = c.before.before in
     let s = k.before in
     c.refused_fit.ensures
     ∙ sym (count_unfit s.args.edition s.args.q s.args.z (ps s) (ap count_fits (counted s) ∙ sym k.count_fits.ensures ∙ c.before.if-not-count_fits.true))
-
-pub pair_sums-requires : goal.pair_sums-requires
-pair_sums-requires c = search rules
 
 pub fit_from-requires : goal.fit_from-requires
 fit_from-requires c =

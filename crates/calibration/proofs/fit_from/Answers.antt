@@ -114,24 +114,12 @@ line-is c =
     ap (λ (b : ℤ). record { slope = b; intercept = to_z w64 (of_z w64 a) }) (slope-kept c.before)
     ∙ ap (λ (v : ℤ). record { slope = slope (s₂ c.before); intercept = v }) (to_z-of_z {w = w64} (record { sfits = c.intercept-a.type_inv }) ∙ intercept-is c)
 
-pub is_flat-flat-requires : goal.is_flat-flat-requires
-is_flat-flat-requires c = search rules
-
-pub divisor-d-requires : goal.divisor-d-requires
-divisor-d-requires c = search rules
-
-pub refused_fit-requires : goal.refused_fit-requires
-refused_fit-requires c = search rules
-
 pub returns-then-d-le0 : goal.returns-then-d-le0
 returns-then-d-le0 c =
     let d = c.before.before in
     let s = d.before.before in
     c.refused_fit.ensures
     ∙ sym (no_divisor s.args.edition s.args.q s.args.z (ps s) s.args.u (subst (λ (x : ℤ). x ≤ℤ pos 0) (divisor-is d) (le_true (D d) Zero c.before.if-d-le0.true)))
-
-pub rise-requires : goal.rise-requires
-rise-requires c = search rules
 
 pub slope-b-requires : goal.slope-b-requires
 slope-b-requires c =
@@ -141,9 +129,6 @@ slope-b-requires c =
       subst (λ (x : ℤ). pos 0 <ℤ x) (sym ((D d).reads ∙ divisor-is d)) (above c.before),
       omega (arith, ap nat_abs ((D d).reads ∙ divisor-is d), divisor_bound s.requires.5 s.requires.4 (flat s)),
     )
-
-pub refused_fit-requires-then-b-eq0 : goal.refused_fit-requires-then-b-eq0
-refused_fit-requires-then-b-eq0 c = search rules
 
 pub returns-then-b-eq0 : goal.returns-then-b-eq0
 returns-then-b-eq0 c =

@@ -46,12 +46,6 @@ good c = sym (tests c.before.before) ∙ c.if-not-ranged.false
 told : (c : Else-not-ranged) → let a = (begin c).args in (RequirementsRanged a.b.requirements × ZRanged a.z) × (a.g.ranged ≡ true)
 told c = let a = (begin c).args in (gathered_answers a.g a.b a.z).sure (subst T (sym (good c)) tt)
 
-pub edition_known-requires : goal.edition_known-requires
-edition_known-requires c = search rules
-
-pub refused_fit-requires : goal.refused_fit-requires
-refused_fit-requires c = search rules
-
 pub returns-then-not-edition_known : goal.returns-then-not-edition_known
 returns-then-not-edition_known c =
     let k = c.before.before in
@@ -59,24 +53,12 @@ returns-then-not-edition_known c =
     c.refused_fit.ensures
     ∙ sym (gathered_unknown a.g a.b a.z (sym k.edition_known.ensures ∙ c.before.if-not-edition_known.true))
 
-pub requirements_ranged-requires : goal.requirements_ranged-requires
-requirements_ranged-requires c = search rules
-
-pub z_ranged-requires : goal.z_ranged-requires
-z_ranged-requires c = search rules
-
-pub refused_fit-requires-then-not-ranged : goal.refused_fit-requires-then-not-ranged
-refused_fit-requires-then-not-ranged c = search rules
-
 pub returns-then-not-ranged : goal.returns-then-not-ranged
 returns-then-not-ranged c =
     let k = c.before.before.before in
     let a = (start k).args in
     c.refused_fit-then-not-ranged.ensures
     ∙ sym (gathered_unranged a.g a.b a.z (known k.before.before.before) (sym (tests k) ∙ c.before.if-not-ranged.true))
-
-pub refused_fit-requires-then-n-gt30 : goal.refused_fit-requires-then-n-gt30
-refused_fit-requires-then-n-gt30 c = search rules
 
 pub returns-then-n-gt30 : goal.returns-then-n-gt30
 returns-then-n-gt30 c =

@@ -5,9 +5,6 @@ use mir.Facts.{to_z-of_z}
 use Rattle.calibration.specs.PairLaws.{between_fits}
 use Rattle.calibration.proofs.fitted_value.Goals as goal
 
-pub value-requires : goal.value-requires
-value-requires c = search rules
-
 pub returns : goal.returns
 returns c =
     let s = c.before.before.before in

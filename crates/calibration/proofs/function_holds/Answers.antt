@@ -18,9 +18,6 @@ product_small c = mul-le-mul {n₂ = 8} {m₂ = 10000} (omega arith) (omega arit
 size : (c : After-magnitude-a) → c.magnitude-a.result ≡ nat_abs c.before.args.sum
 size c = c.magnitude-a.ensures ∙ ap nat_abs (to_z-of_z c.before.ranges.sum)
 
-pub magnitude-a-requires : goal.magnitude-a-requires
-magnitude-a-requires c = search rules
-
 pub overflow_mul-b : goal.overflow_mul-b
 overflow_mul-b c = omega (arith, product_small c.before)
 
@@ -30,9 +27,6 @@ returns-then-a-b c =
     let e = size c.before in
     let h = c.if-a-b.true in
     sym (function_under a.n a.sum a.q a.sigma (omega arith))
-
-pub overflow_sub-a : goal.overflow_sub-a
-overflow_sub-a c = search rules
 
 pub covered-requires : goal.covered-requires
 covered-requires c = omega (arith, size c.before)

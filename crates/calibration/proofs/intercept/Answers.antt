@@ -102,9 +102,6 @@ overflow_mul-m c = let s = start c.before in mul_need (B s) (X s) (BX s).fit
 pub overflow_sub-u : goal.overflow_sub-u
 overflow_sub-u c = let s = start c.before in sub_need (KY s) (BX s) (M s).fit
 
-pub overflow_cast-u : goal.overflow_cast-u
-overflow_cast-u c = search rules
-
 pub near-requires : goal.near-requires
 near-requires c =
     let s = start c.before in

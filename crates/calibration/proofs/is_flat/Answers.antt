@@ -69,28 +69,10 @@ loop-i-init c =
     let h = sized s 0 s.requires.0 in
     (omega (arith, s.requires.0), rw e (record { low = h; high = h }), rw (e, next s.args.pairs s.args.n (enough s) 0 unset s.requires.0))
 
-pub overflow_cast-p : goal.overflow_cast-p
-overflow_cast-p c = search rules
-
-pub offset_bounds-pairs-i : goal.offset_bounds-pairs-i
-offset_bounds-pairs-i c = search rules
-
-pub bounds-pairs-i : goal.bounds-pairs-i
-bounds-pairs-i c = search rules
-
 pub measured-requires : goal.measured-requires
 measured-requires c =
     let t = c.before.before.before in
     asks t.before.before.before.before.before t.before.loop-i.i t.loop-i-test.true
-
-pub widened-s-requires : goal.widened-s-requires
-widened-s-requires c = search rules
-
-pub overflow_add-i : goal.overflow_add-i
-overflow_add-i c = search rules
-
-pub loop-i-smaller : goal.loop-i-smaller
-loop-i-smaller c = search rules
 
 pub loop-i-preserved : goal.loop-i-preserved
 loop-i-preserved c =

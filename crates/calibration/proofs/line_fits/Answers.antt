@@ -65,9 +65,6 @@ module _ (c : At-After-pair_residuals-r) where
 pub beyond-requires : goal.beyond-requires
 beyond-requires c = search rules
 
-pub refused_fit-requires : goal.refused_fit-requires
-refused_fit-requires c = search rules
-
 pub returns-then-beyond : goal.returns-then-beyond
 returns-then-beyond c =
     let s = c.before.before.before.before in
@@ -78,17 +75,11 @@ pair_residuals-r-requires c =
     let s = c.before.before.before.before.before in
     (s.requires.0, s.requires.1, s.requires.2, rw (oxygen s) s.requires.3.oxygen, s.requires.4, rw (oxygen s) (near c.before.before))
 
-pub overflow_sub-n : goal.overflow_sub-n
-overflow_sub-n c = search rules
-
 pub overflow_mul-n : goal.overflow_mul-n
 overflow_mul-n c = let s = s₁ c.before.before in omega (arith, pairs_of_pairs s.args.n s.requires.1)
 
 pub overflow_cast-q : goal.overflow_cast-q
 overflow_cast-q c = sigma_need (s₁ c.before.before.before.before).requires.3
-
-pub k_factor-requires : goal.k_factor-requires
-k_factor-requires c = search rules
 
 pub dispersion-requires : goal.dispersion-requires
 dispersion-requires c =

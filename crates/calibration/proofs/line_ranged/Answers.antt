@@ -23,12 +23,6 @@ fits c = search rules
 pub overflow_cast-l : goal.overflow_cast-l
 overflow_cast-l c = wide_need (fits c.before).0
 
-pub between-requires : goal.between-requires
-between-requires c = search rules
-
-pub between-requires-2 : goal.between-requires-2
-between-requires-2 c = search rules
-
 pub returns : goal.returns
 unfolding line_ranged_of
 returns c =

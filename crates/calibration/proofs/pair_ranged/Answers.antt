@@ -20,17 +20,8 @@ fits c = search rules
 pub overflow_cast-p : goal.overflow_cast-p
 overflow_cast-p c = wide_need (fits c.before).0
 
-pub between-requires : goal.between-requires
-between-requires c = search rules
-
 pub overflow_cast-p-2 : goal.overflow_cast-p-2
 overflow_cast-p-2 c = wide_need (fits c.before.before.before).1
-
-pub between-requires-2 : goal.between-requires-2
-between-requires-2 c = search rules
-
-pub conditions_ranged-requires : goal.conditions_ranged-requires
-conditions_ranged-requires c = search rules
 
 pub returns : goal.returns
 unfolding pair_ranged_of

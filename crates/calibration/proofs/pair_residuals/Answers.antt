@@ -43,9 +43,6 @@ not-far-pair c =
     let i = c.before.loop-i.i in
     pair_near s.args.edition (to_z w32 (of_z w32 s.args.reference)) s.args.l (pair s i) (near s i c.loop-i-test.true)
 
-pub bounds-pairs-0 : goal.bounds-pairs-0
-bounds-pairs-0 c = search rules
-
 pub fitted_value-requires : goal.fitted_value-requires
 fitted_value-requires c = let s = c.before in (rw (back s) s.requires.3, s.requires.4, ranged s 0 s.requires.0)
 
@@ -57,15 +54,6 @@ loop-i-init c =
     let first = next s.args.pairs s.args.n (enough s) 0 unset s.requires.0 in
     let rest = drop 1 (take s.args.n s.args.pairs) in
     (omega arith, rw e (begun_ranged s.args.edition o s.args.l (pair s 0) (near s 0 s.requires.0)), rw (e, first) (residuals_from s.args.edition o s.args.l (pair s 0) rest))
-
-pub overflow_cast-p : goal.overflow_cast-p
-overflow_cast-p c = search rules
-
-pub offset_bounds-pairs-i : goal.offset_bounds-pairs-i
-offset_bounds-pairs-i c = search rules
-
-pub bounds-pairs-i : goal.bounds-pairs-i
-bounds-pairs-i c = search rules
 
 pub measured-requires : goal.measured-requires
 measured-requires c =
@@ -86,12 +74,6 @@ with_residual-r-requires c =
     let R = t.before.loop-i.invariant.1 in
     let f = not-far-pair t in
     (omega (arith, R.sum, s.requires.1), omega (arith, R.squares, s.requires.1), rw c.before.measured.ensures f.0, rw c.fitted_value-in-loop-i.ensures f.1)
-
-pub overflow_add-i : goal.overflow_add-i
-overflow_add-i c = search rules
-
-pub loop-i-smaller : goal.loop-i-smaller
-loop-i-smaller c = search rules
 
 pub loop-i-preserved : goal.loop-i-preserved
 loop-i-preserved c =

@@ -24,23 +24,8 @@ ranged c =
 pub loop-i-init : goal.loop-i-init
 loop-i-init c = (omega arith, refl, none_ranged, sums_from (take c.args.n c.args.pairs))
 
-pub overflow_cast-p : goal.overflow_cast-p
-overflow_cast-p c = search rules
-
-pub offset_bounds-pairs-i : goal.offset_bounds-pairs-i
-offset_bounds-pairs-i c = search rules
-
-pub bounds-pairs-i : goal.bounds-pairs-i
-bounds-pairs-i c = search rules
-
 pub plus-u-requires : goal.plus-u-requires
 plus-u-requires c = let l = c.before.before.loop-i in (l.invariant.2, omega arith, ranged c.before)
-
-pub overflow_add-i : goal.overflow_add-i
-overflow_add-i c = search rules
-
-pub loop-i-smaller : goal.loop-i-smaller
-loop-i-smaller c = search rules
 
 pub loop-i-preserved : goal.loop-i-preserved
 unfolding plus_of

@@ -101,9 +101,6 @@ overflow_cast-x c = wide_need (between_fits tt c.requires.2.signal)
 pub overflow_cast-y : goal.overflow_cast-y
 overflow_cast-y c = wide_need (between_fits tt (start₂ c).requires.2.srm)
 
-pub overflow_add-result : goal.overflow_add-result
-overflow_add-result c = search rules
-
 pub overflow_add-result-2 : goal.overflow_add-result-2
 overflow_add-result-2 c = let s = start₃ c.before in add_need (Ux s) (X s) (Nx s).fit
 

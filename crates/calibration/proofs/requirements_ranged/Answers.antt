@@ -20,20 +20,11 @@ fits c = search rules
 pub overflow_cast-q : goal.overflow_cast-q
 overflow_cast-q c = wide_need (fits c.before).0
 
-pub between-requires : goal.between-requires
-between-requires c = search rules
-
 pub overflow_cast-q-2 : goal.overflow_cast-q-2
 overflow_cast-q-2 c = wide_need (fits c.before.before.before.before).1
 
-pub between-requires-2 : goal.between-requires-2
-between-requires-2 c = search rules
-
 pub overflow_cast-q-3 : goal.overflow_cast-q-3
 overflow_cast-q-3 c = wide_need (fits c.before.before.before.before.before.before).2
-
-pub between-requires-3 : goal.between-requires-3
-between-requires-3 c = search rules
 
 pub returns : goal.returns
 unfolding requirements_ranged_of

@@ -38,9 +38,6 @@ pub returns-then-flat : goal.returns-then-flat
 unfolding rise_of
 returns-then-flat c = let s = c.before.before in (Y s).reads ∙ sym (ap (λ (b : Bool). rise_of b s.args.u) c.before.if-flat.true)
 
-pub overflow_cast-result : goal.overflow_cast-result
-overflow_cast-result c = search rules
-
 pub overflow_mul-result : goal.overflow_mul-result
 overflow_mul-result c = let s = c.before.before.before.before.before in mul_need (N s) (XY s) (NXY s).fit
 

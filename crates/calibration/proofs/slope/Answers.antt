@@ -82,9 +82,6 @@ module _ (c : After-divide-p) where
   rest-small =
       omega (arith, abs_ud rest, one_zero rest, le_ud parts.low, lt_ud parts.high, abs_ud divisor, one_zero divisor, c.before.requires.2)
 
-pub between-requires : goal.between-requires
-between-requires c = search rules
-
 whole-tested : (c : At-After-between) → c.between.result ≡ between_of (neg_ℤ (pos 1)) (pos 10) (whole c.before.before)
 whole-tested c = c.between.ensures ∙ ap (between_of (neg_ℤ (pos 1)) (pos 10)) (W c.before.before).reads
 
@@ -171,9 +168,6 @@ overflow_cast-b c = (P c).fit
 
 pub overflow_add-b : goal.overflow_add-b
 overflow_add-b c = add_need (K c) (P c) (B c).fit
-
-pub between-requires-2 : goal.between-requires-2
-between-requires-2 c = search rules
 
 b-tested : (c : After-between-2) → c.between-2.result ≡ between_of (pos 1) (pos 1000000) (B c.before).num
 b-tested c = c.between-2.ensures ∙ ap (between_of (pos 1) (pos 1000000)) (B c.before).reads

@@ -45,9 +45,6 @@ share-requires c =
     let s = c.before.before.before in
     (omega arith, rw (limit-back s) (omega (arith, between_abs s.requires.1)))
 
-pub higher-requires : goal.higher-requires
-higher-requires c = search rules
-
 pub returns : goal.returns
 unfolding top_of
 returns c =

@@ -4,9 +4,6 @@ use mir.Facts.{to_z-of_z}
 use Rattle.calibration.proofs.ConditionLaws.{calibrated_bound}
 use Rattle.calibration.proofs.value.Goals as goal
 
-pub calibrated-requires : goal.calibrated-requires
-calibrated-requires c = search rules
-
 pub standard_conditions-requires : goal.standard_conditions-requires
 standard_conditions-requires c =
     let s = c.before in

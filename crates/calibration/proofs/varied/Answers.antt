@@ -32,8 +32,5 @@ overflow_mul-result-3 c = omega (arith, k-small c)
 pub overflow_mul-result-4 : goal.overflow_mul-result-4
 overflow_mul-result-4 c = omega (arith, right-small c)
 
-pub nonzero_div-result : goal.nonzero_div-result
-nonzero_div-result c = search rules
-
 pub returns : goal.returns
 returns c = let a = c.args in divided a.scale a.q (a.m * (a.sigma * a.sigma) * (a.k * a.k)) c.requires.0

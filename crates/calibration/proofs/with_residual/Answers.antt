@@ -62,9 +62,6 @@ overflow_cast-d-2 c = let s = start₂ c.before in wide_need (between_fits tt (n
 pub overflow_sub-d : goal.overflow_sub-d
 overflow_sub-d c = let s = start₂ c.before in sub_need (Y s) (C s) (D s).fit
 
-pub higher-requires : goal.higher-requires
-higher-requires c = search rules
-
 pub overflow_add-result : goal.overflow_add-result
 overflow_add-result c = let s = start₃ c.before in add_need (S s) (D s) (S₁ s).fit
 

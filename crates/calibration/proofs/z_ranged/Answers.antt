@@ -7,8 +7,5 @@ use Rattle.calibration.proofs.z_ranged.Goals as goal
 pub overflow_cast-z : goal.overflow_cast-z
 overflow_cast-z c = wide_need c.ranges.z
 
-pub between-requires : goal.between-requires
-between-requires c = search rules
-
 pub returns : goal.returns
 returns c = wide_between (neg_ℤ (pos 10000)) (pos 10000) c.before.ranges.z c.between.ensures

@@ -6,17 +6,8 @@ use Rattle.charts.proofs.add.Goals as goal
 use Rattle.charts.proofs.add.Reads as reads
 use Rattle.charts.proofs.add.Lts as lts
 
-pub overflow_add-z : goal.overflow_add-z
-overflow_add-z c = search rules
-
 pub returns-then-z-takes : goal.returns-then-z-takes
 returns-then-z-takes c = let a = c.before.before.args in sym (added_none a.u a.adds a.takes c.if-z-takes.true)
-
-pub overflow_sub-result : goal.overflow_sub-result
-overflow_sub-result c = search rules
-
-pub overflow_add-result : goal.overflow_add-result
-overflow_add-result c = search rules
 
 pub returns : goal.returns
 returns c = let a = c.before.before.before.args in sym (added_kept a.u a.adds a.takes (search rules))

@@ -16,15 +16,9 @@ use Rattle.charts.proofs.adjustment.Goals.{Start}
 small : (c : Start) → 501 * c.args.s * c.args.count ≤ 501 * 65536 * 100000
 small c = mul-le-mul {n₂ = 501 * 65536} {m₂ = 100000} (omega arith) (omega arith)
 
-pub overflow_mul-t : goal.overflow_mul-t
-overflow_mul-t c = search rules
-
 pub returns-then-value-t : goal.returns-then-value-t
 unfolding adjustment_of
 returns-then-value-t c = let a = c.before.args in simp (le-ltb (drift_limit a.s) a.value (omega arith))
-
-pub overflow_mul-t-2 : goal.overflow_mul-t-2
-overflow_mul-t-2 c = search rules
 
 pub overflow_mul-t-3 : goal.overflow_mul-t-3
 overflow_mul-t-3 c = omega (arith, small c.before)
@@ -34,12 +28,6 @@ overflow_add-t c = omega (arith, small c.before)
 
 pub overflow_mul-t-4 : goal.overflow_mul-t-4
 overflow_mul-t-4 c = omega (arith, small c.before)
-
-pub overflow_mul-n : goal.overflow_mul-n
-overflow_mul-n c = search rules
-
-pub near_unsigned-requires : goal.near_unsigned-requires
-near_unsigned-requires c = search rules
 
 pub returns : goal.returns
 unfolding adjustment_of

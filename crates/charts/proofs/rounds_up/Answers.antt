@@ -20,9 +20,6 @@ at-half r d h = go (eqb d (2 * r)) refl
     go true e = let k = eqb-true d (2 * r) e in eq-eqb (d - r) r (omega arith) ∙ sym e
     go false e = let n = eqb-false d (2 * r) e in ne_eqb (d - r) r (λ k. n (omega arith)) ∙ sym e
 
-pub overflow_sub-left : goal.overflow_sub-left
-overflow_sub-left c = search rules
-
 pub returns : goal.returns
 unfolding rounds_up
 returns c = let a = c.args in rw (over-half a.r a.d c.requires, at-half a.r a.d c.requires)

@@ -12,9 +12,6 @@ pub returns-then-readings-u : goal.returns-then-readings-u
 unfolding within_of
 returns-then-readings-u c = simp (lt-leb _ _ c.if-readings-u.true)
 
-pub overflow_cast-result : goal.overflow_cast-result
-overflow_cast-result c = search rules
-
 pub overflow_mul-result : goal.overflow_mul-result
 overflow_mul-result c =
     let a = c.before.before.before.args in

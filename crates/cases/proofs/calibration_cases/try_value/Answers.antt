@@ -1,7 +1,7 @@
 use Rattle.std.specs.Prelude.{not}
 use Rattle.std.proofs.Common.{ap, pos}
 use Rattle.calibration.specs.Pairs.{conditions_answers}
-use Rattle.calibration.proofs.ConditionLaws.{line_answers}
+use Rattle.calibration.specs.ConditionLaws.{line_answers}
 use Rattle.cases.specs.Answered.{yes, within}
 use Rattle.cases.proofs.calibration_cases.try_value.Goals as goal
 

@@ -13,9 +13,6 @@ use Rattle.charts.proofs.Chart.alarms.Goals.{Start}
 small : (c : Start) → c.args.s * c.args.s ≤ 65536 * 65536
 small c = mul-le-mul {n₂ = 65536} {m₂ = 65536} (omega arith) (omega arith)
 
-pub overflow_mul-drift : goal.overflow_mul-drift
-overflow_mul-drift c = search rules
-
 pub overflow_mul-spread : goal.overflow_mul-spread
 overflow_mul-spread c = omega (arith, small c)
 

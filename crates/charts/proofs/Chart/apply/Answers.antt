@@ -111,33 +111,6 @@ falling-within c =
 pub raised-x-requires : goal.raised-x-requires
 raised-x-requires c = rw (d-back c) c.requires.2
 
-pub raised-requires : goal.raised-requires
-raised-requires c = search rules
-
-pub apart-step-requires : goal.apart-step-requires
-apart-step-requires c = search rules
-
-pub overflow_mul-slack : goal.overflow_mul-slack
-overflow_mul-slack c = search rules
-
-pub overflow_mul-x : goal.overflow_mul-x
-overflow_mul-x c = search rules
-
-pub overflow_add-slack : goal.overflow_add-slack
-overflow_add-slack c = search rules
-
-pub add-rising-requires : goal.add-rising-requires
-add-rising-requires c = search rules
-
-pub overflow_mul-x-2 : goal.overflow_mul-x-2
-overflow_mul-x-2 c = search rules
-
-pub overflow_add-x : goal.overflow_add-x
-overflow_add-x c = search rules
-
-pub add-falling-requires : goal.add-falling-requires
-add-falling-requires c = search rules
-
 pub overflow_mul-step : goal.overflow_mul-step
 overflow_mul-step c = omega (arith, step_small c.before.before.before.before.before.before)
 
@@ -152,9 +125,6 @@ overflow_mul-q-2 c = omega (arith, s-small c.before.before.before.before.before.
 
 pub add-precision-requires : goal.add-precision-requires
 add-precision-requires c = omega (arith, step_small c.before.before.before.before.before.before)
-
-pub overflow_add-result : goal.overflow_add-result
-overflow_add-result c = search rules
 
 pub adjustment-requires : goal.adjustment-requires
 adjustment-requires c = let w = rising-within c.before.before.before.before in omega (arith, w.counted, w.bounded, (start c.before.before.before.before.before).requires.1)

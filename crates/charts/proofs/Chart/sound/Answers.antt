@@ -22,18 +22,6 @@ pub returns-then-n-gt100000 : goal.returns-then-n-gt100000
 unfolding sound_of
 returns-then-n-gt100000 c = simp (lt-leb _ _ c.if-n-gt100000.true)
 
-pub ranged-requires : goal.ranged-requires
-ranged-requires c = search rules
-
-pub within-requires : goal.within-requires
-within-requires c = search rules
-
-pub within-requires-2 : goal.within-requires-2
-within-requires-2 c = search rules
-
-pub within-requires-3 : goal.within-requires-3
-within-requires-3 c = search rules
-
 -- the field fits its type: said by the `struct_told` ahead of its use
 back : (c : At-After-struct_told-1) → let l = c.before.before.before.before.before.args.self.last in to_z w32 (of_z w32 l) ≡ l
 back c = to_z-of_z {w = w32} (search rules)

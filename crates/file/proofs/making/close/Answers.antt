@@ -37,9 +37,6 @@ setting c =
     let a = s.args in
     L.begun_setting 4000000000 a.st (L.passed_begun (facts_of a.st) a.kind a.minute a.z (passed c)) s.requires.1
 
-pub first_rows-n-requires : goal.first_rows-n-requires
-first_rows-n-requires c = search rules
-
 pub returns-then-n-ne0 : goal.returns-then-n-ne0
 returns-then-n-ne0 c =
     let n = c.before.before in

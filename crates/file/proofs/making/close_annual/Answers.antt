@@ -19,9 +19,6 @@ waiting : (s : Start) → length (facts_of s.args.st).pending ≡ s.args.st.pend
 unfolding facts_of
 waiting s = length-take-le s.args.st.pending s.args.st.pairs (omega (arith, s.requires.1.pending, thirty s.args.st _ s.well_formed.0))
 
-pub annual_result-t-requires : goal.annual_result-t-requires
-annual_result-t-requires c = search rules
-
 pub returns-then-t-ne0 : goal.returns-then-t-ne0
 returns-then-t-ne0 c =
     let k = c.before.before.before in
@@ -30,9 +27,6 @@ returns-then-t-ne0 c =
       value = ap (λ (t : Tested). t.refusal) k.annual_result-t.ensures;
       target_after = kept_old _ _ a.target.now c.if-t-ne0.true;
     }
-
-pub write_annual-requires : goal.write_annual-requires
-write_annual-requires c = search rules
 
 pub returns : goal.returns
 returns c =

@@ -21,9 +21,6 @@ result-is c =
     let s = c.before.before in
     c.calibration_result-c.ensures ∙ ap (calibration_of (facts_of s.args.st)) (to_z-of_z s.ranges.z)
 
-pub calibration_result-c-requires : goal.calibration_result-c-requires
-calibration_result-c-requires c = search rules
-
 pub returns-then-c-ne0 : goal.returns-then-c-ne0
 returns-then-c-ne0 c =
     let k = c.before.before.before in
@@ -32,9 +29,6 @@ returns-then-c-ne0 c =
       value = ap (λ (u : Fitted). u.refusal) (result-is k);
       target_after = kept_old _ _ a.target.now c.if-c-ne0.true;
     }
-
-pub write_calibration-requires : goal.write_calibration-requires
-write_calibration-requires c = search rules
 
 pub returns : goal.returns
 returns c =

@@ -27,9 +27,6 @@ returns-then-minute-st c =
     let a = b.before.before.args in
     sym (time_stops (facts_of a.st) a.kind a.minute a.z b.if-not-st.false c.if-minute-st.true)
 
-pub z_fits-requires : goal.z_fits-requires
-z_fits-requires c = search rules
-
 pub returns-then-not-z_fits : goal.returns-then-not-z_fits
 unfolding facts_of
 returns-then-not-z_fits c =

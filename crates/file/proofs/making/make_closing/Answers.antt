@@ -75,9 +75,6 @@ closing-is c =
     ap (λ (x : Appended). closing_of (facts_of x.state) a.kind a.minute (to_z w32 (of_z w32 a.z))) (c.run_records-ran.ensures ∙ ap (λ (s : State). ran_of s c.args.bytes.now) c.«open».ensures)
     ∙ ap (closing_of (facts_of (ran_of (opened a.st a.edition) a.bytes.now).state) a.kind a.minute) (to_z-of_z {w = w32} c.ranges.z)
 
-pub ended-requires : goal.ended-requires
-ended-requires c = search rules
-
 pub returns-then-target-ne40 : goal.returns-then-target-ne40
 returns-then-target-ne40 c =
     let a = c.args in
@@ -86,12 +83,6 @@ returns-then-target-ne40 c =
       value = c.ended.ensures ∙ sym e;
       target_after = L.bytes_kept a.st a.edition a.bytes.now a.kind a.minute a.z a.target.now _ e (λ z. omega arith);
     }
-
-pub records_fit-requires : goal.records_fit-requires
-records_fit-requires c = search rules
-
-pub ended-requires-then-not-records_fit : goal.ended-requires-then-not-records_fit
-ended-requires-then-not-records_fit c = search rules
 
 pub returns-then-not-records_fit : goal.returns-then-not-records_fit
 returns-then-not-records_fit c =
@@ -104,12 +95,6 @@ returns-then-not-records_fit c =
       target_after = L.bytes_kept a.st a.edition a.bytes.now a.kind a.minute a.z a.target.now _ e (λ z. omega arith);
     }
 
-pub closes-requires : goal.closes-requires
-closes-requires c = search rules
-
-pub ended-requires-then-not-closes : goal.ended-requires-then-not-closes
-ended-requires-then-not-closes c = search rules
-
 pub returns-then-not-closes : goal.returns-then-not-closes
 returns-then-not-closes c =
     let a = c.args in
@@ -121,12 +106,6 @@ returns-then-not-closes c =
       target_after = L.bytes_kept a.st a.edition a.bytes.now a.kind a.minute a.z a.target.now _ e (λ z. omega arith);
     }
 
-pub ready-requires : goal.ready-requires
-ready-requires c = search rules
-
-pub ended-requires-then-not-ready : goal.ended-requires-then-not-ready
-ended-requires-then-not-ready c = search rules
-
 pub returns-then-not-ready : goal.returns-then-not-ready
 returns-then-not-ready c =
     let a = c.args in
@@ -137,15 +116,6 @@ returns-then-not-ready c =
       value = c.ended-then-not-ready.ensures ∙ sym e;
       target_after = L.bytes_kept a.st a.edition a.bytes.now a.kind a.minute a.z a.target.now _ e (λ z. omega arith);
     }
-
-pub told-told-requires : goal.told-told-requires
-told-told-requires c = search rules
-
-pub overflow_cast-told : goal.overflow_cast-told
-overflow_cast-told c = search rules
-
-pub ended-requires-then-told-ne0 : goal.ended-requires-then-told-ne0
-ended-requires-then-told-ne0 c = search rules
 
 pub returns-then-told-ne0 : goal.returns-then-told-ne0
 returns-then-told-ne0 c =
@@ -159,16 +129,10 @@ returns-then-told-ne0 c =
       target_after = L.bytes_kept a.st a.edition a.bytes.now a.kind a.minute a.z a.target.now _ e c.if-told-ne0.true;
     }
 
-pub open-requires : goal.open-requires
-open-requires c = search rules
-
 pub run_records-ran-requires : goal.run_records-ran-requires
 run_records-ran-requires c =
     let a = c.args in
     (few (goal.at.run_records-ran-requires c).Else-not-records_fit, ap ready_of c.«open».ensures ∙ opened_ready a.st a.edition ∙ sound (goal.at.run_records-ran-requires c).Else-not-ready)
-
-pub ended-requires-then-ran-ne0 : goal.ended-requires-then-ran-ne0
-ended-requires-then-ran-ne0 c = search rules
 
 pub returns-then-ran-ne0 : goal.returns-then-ran-ne0
 returns-then-ran-ne0 c =
@@ -194,9 +158,6 @@ pub overflow_cast-bytes : goal.overflow_cast-bytes
 overflow_cast-bytes c =
     record { fits = omega (arith, few (goal.at.overflow_cast-bytes c).Else-not-records_fit) }
 
-pub ended-requires-then-refusal-ne0 : goal.ended-requires-then-refusal-ne0
-ended-requires-then-refusal-ne0 c = search rules
-
 pub returns-then-refusal-ne0 : goal.returns-then-refusal-ne0
 returns-then-refusal-ne0 c =
     let a = c.args in
@@ -208,9 +169,6 @@ returns-then-refusal-ne0 c =
           ∙ sym (L.kept_old _ _ a.target.now c.if-refusal-ne0.true)
           ∙ L.bytes_kept a.st a.edition a.bytes.now a.kind a.minute a.z a.target.now _ e c.if-refusal-ne0.true;
     }
-
-pub ended-requires-2 : goal.ended-requires-2
-ended-requires-2 c = search rules
 
 pub returns : goal.returns
 returns c =

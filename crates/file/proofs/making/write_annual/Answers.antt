@@ -3,18 +3,6 @@ use Rattle.file.proofs.ClosingLaws.{annual_written}
 use borrow.Author.Rules.{rules}
 use Rattle.file.proofs.making.write_annual.Goals as goal
 
-pub test_mark-requires : goal.test_mark-requires
-test_mark-requires c = search rules
-
-pub write_head-requires : goal.write_head-requires
-write_head-requires c = search rules
-
-pub write32-requires : goal.write32-requires
-write32-requires c = search rules
-
-pub clear-requires : goal.clear-requires
-clear-requires c = search rules
-
 pub returns : goal.returns
 returns c =
     let w3 = c.before.before.before in

@@ -8,21 +8,6 @@ use Rattle.file.proofs.ClosingLaws.{calibration_written}
 use borrow.Author.Rules.{rules}
 use Rattle.file.proofs.making.write_calibration.Goals as goal
 
-pub pass_mark-requires : goal.pass_mark-requires
-pass_mark-requires c = search rules
-
-pub write_head-requires : goal.write_head-requires
-write_head-requires c = search rules
-
-pub write_signed-requires : goal.write_signed-requires
-write_signed-requires c = search rules
-
-pub write_figures-requires : goal.write_figures-requires
-write_figures-requires c = search rules
-
-pub clear-requires : goal.clear-requires
-clear-requires c = search rules
-
 pub returns : goal.returns
 returns c =
     let w4 = c.before.before.before in

@@ -32,18 +32,6 @@ intercept-reads c = to_z-of_z {w = w64} (search rules)
 top-reads : (c : At-After-struct_told-3-1) → let z = c.before.before.before.before.before.before.before.before.before.before.before.before.before.args.c.top.0 in to_z w32 (of_z w32 z) ≡ z
 top-reads c = to_z-of_z {w = w32} (search rules)
 
-pub write_signed-requires : goal.write_signed-requires
-write_signed-requires c = search rules
-
-pub write_signed_long-requires : goal.write_signed_long-requires
-write_signed_long-requires c = search rules
-
-pub write_signed-requires-2 : goal.write_signed-requires-2
-write_signed-requires-2 c = search rules
-
-pub write32-requires : goal.write32-requires
-write32-requires c = search rules
-
 pub returns : goal.returns
 returns c =
     let w4 = c.before.before.before in

@@ -14,9 +14,6 @@ use Rattle.file.proofs.making.write_head.Reads as reads
 abbrev At-After-slice_known-2-1 : Type 0
 At-After-slice_known-2-1 = lts.After-slice_known2 tie.the-claims reads.Pre reads.Post
 
-pub bounds-target-0 : goal.bounds-target-0
-bounds-target-0 c = search rules
-
 pub bounds-target-1 : goal.bounds-target-1
 bounds-target-1 c = simp length-set (omega arith)
 
@@ -25,9 +22,6 @@ bounds-target-2 c = simp length-set (omega arith)
 
 pub bounds-target-3 : goal.bounds-target-3
 bounds-target-3 c = simp length-set (omega arith)
-
-pub write32-requires : goal.write32-requires
-write32-requires c = search rules
 
 whole : (c : At-After-slice_known-2-1) → let a = c.before.before.before.before.before.args in c.before.before.write32.new.target ≡ written a.target.now 0 (head_of a.kind a.mark a.minute)
 whole c =

@@ -7,12 +7,6 @@ use Rattle.records.specs.Bytes.{bytes32, written}
 use Rattle.file.specs.Closings.{unsigned32}
 use Rattle.file.proofs.making.write_signed.Goals as goal
 
-pub unsigned-requires : goal.unsigned-requires
-unsigned-requires c = search rules
-
-pub write32-requires : goal.write32-requires
-write32-requires c = search rules
-
 pub returns : goal.returns
 returns c =
     let w = c.before.before.before in

@@ -9,24 +9,6 @@ use Rattle.file.proofs.ClosingLaws.{long_written}
 use borrow.Author.Rules.{rules}
 use Rattle.file.proofs.making.write_signed_long.Goals as goal
 
-pub unsigned_long-n-requires : goal.unsigned_long-n-requires
-unsigned_long-n-requires c = search rules
-
-pub overflow_cast-n : goal.overflow_cast-n
-overflow_cast-n c = search rules
-
-pub write32-requires : goal.write32-requires
-write32-requires c = search rules
-
-pub overflow_add-at : goal.overflow_add-at
-overflow_add-at c = search rules
-
-pub overflow_cast-n-2 : goal.overflow_cast-n-2
-overflow_cast-n-2 c = search rules
-
-pub write32-requires-2 : goal.write32-requires-2
-write32-requires-2 c = search rules
-
 pub returns : goal.returns
 returns c =
     let w = c.before.before.before in

@@ -11,9 +11,6 @@ use Rattle.records.specs.Table.{sameℤ}
 use Rattle.file.specs.Closings.{z_fits}
 use Rattle.file.proofs.making.z_fits.Goals as goal
 
-pub z_ranged-requires : goal.z_ranged-requires
-z_ranged-requires c = search rules
-
 pub returns-then-kind-eq5 : goal.returns-then-kind-eq5
 unfolding z_fits
 returns-then-kind-eq5 c =

@@ -7,12 +7,6 @@ use Rattle.records.specs.Answers.{recent_of}
 use Rattle.records.specs.declared.state.Demand.{Demand}
 use Rattle.file.proofs.reporting.recent.Goals as goal
 
-pub age-requires : goal.age-requires
-age-requires c = search rules
-
-pub returns-in-Quiet : goal.returns-in-Quiet
-returns-in-Quiet c = search rules
-
 pub returns-in-Since : goal.returns-in-Since
 returns-in-Since c =
     let a = c.args in

@@ -9,24 +9,6 @@ use Rattle.file.specs.declared.Report.{Report}
 use Rattle.file.proofs.reporting.report.Goals as goal
 use Rattle.file.proofs.reporting.report.Goals.{After-recent}
 
-pub alarms-zero-requires : goal.alarms-zero-requires
-alarms-zero-requires c = search rules
-
-pub alarms-span-requires : goal.alarms-span-requires
-alarms-span-requires c = search rules
-
-pub silent-requires : goal.silent-requires
-silent-requires c = search rules
-
-pub silent-requires-2 : goal.silent-requires-2
-silent-requires-2 c = search rules
-
-pub young-requires : goal.young-requires
-young-requires c = search rules
-
-pub recent-requires : goal.recent-requires
-recent-requires c = search rules
-
 -- the answer is the definition's
 is : (c : After-recent) →
     let v = c.before.before.before in

@@ -7,12 +7,6 @@ use Rattle.records.specs.Answers.{young_of}
 use Rattle.records.specs.declared.state.Calibration.{Calibration}
 use Rattle.file.proofs.reporting.young.Goals as goal
 
-pub age-requires : goal.age-requires
-age-requires c = search rules
-
-pub returns-in-Absent : goal.returns-in-Absent
-returns-in-Absent c = search rules
-
 pub returns-in-InForce : goal.returns-in-InForce
 returns-in-InForce c =
     let a = c.args in

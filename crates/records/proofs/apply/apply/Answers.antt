@@ -45,15 +45,6 @@ pair_fits j k = pair_passes (facts_of (state_of j)) (recordOf j) (pair_passed (f
 record-formed : (c : At-After-judged-s) → FormedFields (recordOf c)
 record-formed c = formed_fields (recordOf c) (passed c).formed
 
-pub read32-requires : goal.read32-requires
-read32-requires c = search rules
-
-pub judged-s-requires : goal.judged-s-requires
-judged-s-requires c = search rules
-
-pub bounds-r-0 : goal.bounds-r-0
-bounds-r-0 c = search rules
-
 pub setting_of-requires : goal.setting_of-requires
 unfolding kind
 setting_of-requires c =
@@ -69,9 +60,6 @@ with_reading-requires c =
     rw (judged-is j)
     (s.requires.0, reading_ranged_lem (recordOf j) A.ranged c.in-2.is, reading_passed (facts_of (state_of j)) (recordOf j) A c.in-2.is, s.requires.1.zero, s.requires.1.span)
 
-pub with_reset-requires : goal.with_reset-requires
-with_reset-requires c = search rules
-
 pub waiting_of-requires : goal.waiting_of-requires
 unfolding kind
 waiting_of-requires c =
@@ -83,15 +71,6 @@ unfolding judged_of facts_of kind
 with_pair-requires c =
     let j = c.before.before.before.before in
     rw (judged-is j) (omega (arith, (pair_fits j c.in-4.is).room, length-take (state_of j).pending (state_of j).pairs, places j.before.before.before))
-
-pub with_calibration-requires : goal.with_calibration-requires
-with_calibration-requires c = search rules
-
-pub with_annual-requires : goal.with_annual-requires
-with_annual-requires c = search rules
-
-pub bounds-r-1 : goal.bounds-r-1
-bounds-r-1 c = search rules
 
 pub outside-requires : goal.outside-requires
 unfolding kind sets judged_of
@@ -107,9 +86,6 @@ with_value-requires c =
     let j = c.before.before.before.before.before.before in
     let S = j.before.before.before.requires.1 in
     rw (judged-is j) (omega (arith, judged_total (state_of j) (recordOf j), S.total), omega (arith, judged_outside (state_of j) (recordOf j), S.outside))
-
-pub emptied-requires : goal.emptied-requires
-emptied-requires c = search rules
 
 pub returns-in-1 : goal.returns-in-1
 unfolding kind with_setting

@@ -4,12 +4,6 @@ use Rattle.charts.specs.Tests.{if_yes, if_no}
 use borrow.Author.Rules.{rules}
 use Rattle.records.proofs.apply.demand_after.Goals as goal
 
-pub judges-requires : goal.judges-requires
-judges-requires c = search rules
-
-pub raised-requires : goal.raised-requires
-raised-requires c = search rules
-
 pub returns-then-judges : goal.returns-then-judges
 returns-then-judges c = c.raised.ensures ∙ sym (if_yes _ _ _ (sym c.before.before.judges.ensures ∙ c.before.if-judges.true))
 

@@ -4,9 +4,6 @@ use Rattle.records.specs.StateParts.{emptied}
 use borrow.Author.Rules.{rules}
 use Rattle.records.proofs.apply.emptied.Goals as goal
 
-pub no_pair-w-requires : goal.no_pair-w-requires
-no_pair-w-requires c = search rules
-
 pub returns : goal.returns
 unfolding emptied no_pairs
 returns c = rw c.before.before.before.no_pair-w.ensures

@@ -6,9 +6,3 @@ use Rattle.records.proofs.apply.exceeds.Goals as goal
 
 pub overflow_mul-result : goal.overflow_mul-result
 overflow_mul-result c = omega (arith, mul-le-mul {n₁ = c.args.percent} {m₁ = c.args.total} {n₂ = 100} {m₂ = 4294967296} (omega arith) (omega arith))
-
-pub overflow_mul-result-2 : goal.overflow_mul-result-2
-overflow_mul-result-2 c = search rules
-
-pub returns : goal.returns
-returns c = search rules

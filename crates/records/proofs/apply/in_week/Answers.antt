@@ -4,12 +4,6 @@ use Rattle.records.specs.InPlace.{in_week_of}
 use borrow.Author.Rules.{rules}
 use Rattle.records.proofs.apply.in_week.Goals as goal
 
-pub read32-m-requires : goal.read32-m-requires
-read32-m-requires c = search rules
-
-pub bounds-r-0 : goal.bounds-r-0
-bounds-r-0 c = search rules
-
 pub returns : goal.returns
 unfolding kind minute in_week_of
 returns c = rw c.read32-m.ensures

@@ -4,15 +4,6 @@ use Rattle.records.specs.State.{no_pairs, initial_of}
 use borrow.Author.Rules.{rules}
 use Rattle.records.proofs.apply.initial.Goals as goal
 
-pub no_pair-w-requires : goal.no_pair-w-requires
-no_pair-w-requires c = search rules
-
-pub unstarted-requires : goal.unstarted-requires
-unstarted-requires c = search rules
-
-pub unstarted-requires-2 : goal.unstarted-requires-2
-unstarted-requires-2 c = search rules
-
 pub returns : goal.returns
 unfolding initial_of no_setting no_pairs
 returns c = rw (c.before.before.no_pair-w.ensures, c.before.unstarted.ensures, c.unstarted-2.ensures)

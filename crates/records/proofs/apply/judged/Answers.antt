@@ -8,12 +8,6 @@ pub returns-then-m-st : goal.returns-then-m-st
 unfolding judged_of
 returns-then-m-st c = rw (le-ltb _ _ c.before.before.before.before.if-m-st.true)
 
-pub weeks_over-over-requires : goal.weeks_over-over-requires
-weeks_over-over-requires c = search rules
-
-pub demand_after-demand-requires : goal.demand_after-demand-requires
-demand_after-demand-requires c = search rules
-
 pub returns : goal.returns
 unfolding judged_of
 returns c =

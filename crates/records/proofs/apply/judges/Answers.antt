@@ -3,12 +3,6 @@ use Rattle.records.specs.State.{judges}
 use borrow.Author.Rules.{rules}
 use Rattle.records.proofs.apply.judges.Goals as goal
 
-pub exceeds-requires : goal.exceeds-requires
-exceeds-requires c = search rules
-
-pub exceeds-requires-2 : goal.exceeds-requires-2
-exceeds-requires-2 c = search rules
-
 pub returns : goal.returns
 unfolding judges
 returns c = rw (c.before.before.exceeds.ensures, c.before.exceeds-2.ensures)

@@ -48,12 +48,6 @@ back c = to_z-of_z {w = w32} (record { sfits = c.difference_of-d.type_inv }) ∙
 pub difference_of-d-requires : goal.difference_of-d-requires
 difference_of-d-requires c = (c.requires.size, ranges c.before.before)
 
-pub read32-requires : goal.read32-requires
-read32-requires c = search rules
-
-pub bounds-r-1 : goal.bounds-r-1
-bounds-r-1 c = search rules
-
 pub apply-after-requires : goal.apply-after-requires
 unfolding facts_of mark
 apply-after-requires c =

@@ -25,21 +25,12 @@ time : (c : At-After-read32) → c.read32.result ≡ minute c.before.before.befo
 unfolding minute
 time c = c.read32.ensures
 
-pub read32-requires : goal.read32-requires
-read32-requires c = search rules
-
-pub bounds-r-1 : goal.bounds-r-1
-bounds-r-1 c = search rules
-
 pub returns-then-r-ne0 : goal.returns-then-r-ne0
 unfolding mark
 returns-then-r-ne0 c =
     let t = c.before.before.before in
     let s = t.before.before.before in
     minute_changes s.args.st s.args.r.now s.requires.week t.read32.result (time t) s.requires.is c.if-r-ne0.true
-
-pub overflow_add-st : goal.overflow_add-st
-overflow_add-st c = search rules
 
 pub outside-requires : goal.outside-requires
 unfolding kind sets
@@ -52,9 +43,6 @@ outside-requires c =
       P.size,
       value_ranged_lem r (passed s).ranged P.is,
     )
-
-pub overflow_add-st-then-outside : goal.overflow_add-st-then-outside
-overflow_add-st-then-outside c = search rules
 
 pub returns-then-outside : goal.returns-then-outside
 unfolding mark

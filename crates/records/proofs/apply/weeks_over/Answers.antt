@@ -4,12 +4,6 @@ use Rattle.charts.specs.Tests.{if_yes, if_no}
 use borrow.Author.Rules.{rules}
 use Rattle.records.proofs.apply.weeks_over.Goals as goal
 
-pub exceeds-requires : goal.exceeds-requires
-exceeds-requires c = search rules
-
-pub overflow_add-result : goal.overflow_add-result
-overflow_add-result c = search rules
-
 pub returns-then-exceeds : goal.returns-then-exceeds
 returns-then-exceeds c = sym (if_yes _ _ _ (sym c.before.exceeds.ensures ∙ c.if-exceeds.true))
 

@@ -5,21 +5,9 @@ use Rattle.records.specs.StateParts.{with_annual}
 use borrow.Author.Rules.{rules}
 use Rattle.records.proofs.apply.with_annual.Goals as goal
 
-pub bounds-r-1 : goal.bounds-r-1
-bounds-r-1 c = search rules
-
-pub with_period-requires : goal.with_period-requires
-with_period-requires c = search rules
-
 pub returns-then-r-eq3 : goal.returns-then-r-eq3
 unfolding with_annual mark
 returns-then-r-eq3 c = rw (eq-eqb _ 3 c.if-r-eq3.true, c.with_period.ensures)
-
-pub read32-requires : goal.read32-requires
-read32-requires c = search rules
-
-pub with_failure-requires : goal.with_failure-requires
-with_failure-requires c = search rules
 
 pub returns : goal.returns
 unfolding with_annual mark minute

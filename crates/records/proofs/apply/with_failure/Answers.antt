@@ -3,12 +3,6 @@ use Rattle.records.specs.StateParts.{with_demand, with_failure}
 use borrow.Author.Rules.{rules}
 use Rattle.records.proofs.apply.with_failure.Goals as goal
 
-pub raised-d-requires : goal.raised-d-requires
-raised-d-requires c = search rules
-
-pub emptied-requires : goal.emptied-requires
-emptied-requires c = search rules
-
 pub returns : goal.returns
 unfolding with_demand with_failure
 returns c =

@@ -3,9 +3,6 @@ use Rattle.records.specs.StateParts.{with_function}
 use borrow.Author.Rules.{rules}
 use Rattle.records.proofs.apply.with_function.Goals as goal
 
-pub emptied-requires : goal.emptied-requires
-emptied-requires c = search rules
-
 pub returns : goal.returns
 unfolding with_function
 returns c = rw c.before.before.before.before.emptied.ensures

@@ -3,9 +3,6 @@ use Rattle.records.specs.StateParts.{with_period}
 use borrow.Author.Rules.{rules}
 use Rattle.records.proofs.apply.with_period.Goals as goal
 
-pub emptied-requires : goal.emptied-requires
-emptied-requires c = search rules
-
 pub returns : goal.returns
 unfolding with_period
 returns c = rw c.before.before.before.before.emptied.ensures

@@ -21,12 +21,6 @@ At-After-difference_of-d = lts.After-difference_of tie.the-claims reads.Pre read
 back : (c : At-After-difference_of-d) → to_z w32 (of_z w32 c.difference_of-d.result) ≡ difference_of c.before.before.args.r.now
 back c = to_z-of_z {w = w32} (record { sfits = c.difference_of-d.type_inv }) ∙ c.difference_of-d.ensures
 
-pub difference_of-d-requires : goal.difference_of-d-requires
-difference_of-d-requires c = search rules
-
-pub bounds-r-1 : goal.bounds-r-1
-bounds-r-1 c = search rules
-
 pub apply-requires : goal.apply-requires
 unfolding facts_of mark
 apply-requires c =

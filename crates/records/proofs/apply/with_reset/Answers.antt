@@ -5,20 +5,11 @@ use Rattle.records.specs.StateParts.{with_zero, with_span, with_reset}
 use borrow.Author.Rules.{rules}
 use Rattle.records.proofs.apply.with_reset.Goals as goal
 
-pub bounds-r-1 : goal.bounds-r-1
-bounds-r-1 c = search rules
-
-pub reset-requires : goal.reset-requires
-reset-requires c = search rules
-
 pub returns-then-r-eq0 : goal.returns-then-r-eq0
 unfolding with_reset with_zero mark
 returns-then-r-eq0 c =
     let k = c.before.before.before.before in
     rw (eq-eqb _ 0 k.before.before.if-r-eq0.true, k.reset.ensures)
-
-pub reset-requires-2 : goal.reset-requires-2
-reset-requires-2 c = search rules
 
 pub returns : goal.returns
 unfolding with_reset with_span mark

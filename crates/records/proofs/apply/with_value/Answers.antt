@@ -9,20 +9,11 @@ pub returns-then-mark-ne0 : goal.returns-then-mark-ne0
 unfolding with_value
 returns-then-mark-ne0 c = rw (ne_eqb _ _ c.if-mark-ne0.true)
 
-pub overflow_add-result : goal.overflow_add-result
-overflow_add-result c = search rules
-
-pub overflow_add-result-then-outside : goal.overflow_add-result-then-outside
-overflow_add-result-then-outside c = search rules
-
 pub returns-then-outside : goal.returns-then-outside
 unfolding with_value with_tally
 returns-then-outside c =
     let i = c.before.before.before.before.before.before in
     rw (i.before.if-mark-ne0.false, if_yes _ _ _ i.if-outside.true)
-
-pub overflow_add-result-2 : goal.overflow_add-result-2
-overflow_add-result-2 c = search rules
 
 pub returns : goal.returns
 unfolding with_value with_tally

@@ -11,18 +11,6 @@ loop-i-init c =
     let a = c.args in
     (omega arith, refl, refl, paste-zero a.target.now a.at a.source.now)
 
-pub bounds-source-i : goal.bounds-source-i
-bounds-source-i c = omega arith
-
-pub overflow_add-target : goal.overflow_add-target
-overflow_add-target c = omega arith
-
-pub bounds-target-at : goal.bounds-target-at
-bounds-target-at c = omega arith
-
-pub loop-i-smaller : goal.loop-i-smaller
-loop-i-smaller c = omega arith
-
 pub loop-i-preserved : goal.loop-i-preserved
 loop-i-preserved c =
     let v = c.loop-i in

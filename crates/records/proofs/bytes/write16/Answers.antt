@@ -9,18 +9,6 @@ use Rattle.records.specs.Bytes.{bytes16, written}
 use Rattle.records.specs.BytesLaws.{stored_two}
 use Rattle.records.proofs.bytes.write16.Goals as goal
 
-pub overflow_cast-target : goal.overflow_cast-target
-overflow_cast-target c = search rules
-
-pub bounds-target-at : goal.bounds-target-at
-bounds-target-at c = search rules
-
-pub overflow_cast-target-2 : goal.overflow_cast-target-2
-overflow_cast-target-2 c = search rules
-
-pub overflow_add-target : goal.overflow_add-target
-overflow_add-target c = search rules
-
 pub bounds-target-at-2 : goal.bounds-target-at-2
 bounds-target-at-2 c = simp length-set (omega arith)
 

@@ -7,21 +7,6 @@ use Rattle.records.specs.BytesLaws.{written_halves}
 use borrow.Author.Rules.{rules}
 use Rattle.records.proofs.bytes.write32.Goals as goal
 
-pub overflow_cast-n : goal.overflow_cast-n
-overflow_cast-n c = search rules
-
-pub write16-requires : goal.write16-requires
-write16-requires c = search rules
-
-pub overflow_add-at : goal.overflow_add-at
-overflow_add-at c = search rules
-
-pub overflow_cast-n-2 : goal.overflow_cast-n-2
-overflow_cast-n-2 c = search rules
-
-pub write16-requires-2 : goal.write16-requires-2
-write16-requires-2 c = search rules
-
 pub returns : goal.returns
 returns c =
     let w = c.before.before.before in

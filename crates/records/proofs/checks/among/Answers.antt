@@ -11,26 +11,11 @@ use Rattle.records.proofs.checks.among.Goals as goal
 pub loop-i-init : goal.loop-i-init
 loop-i-init c = (omega arith, refl)
 
-pub overflow_cast-w : goal.overflow_cast-w
-overflow_cast-w c = omega arith
-
-pub offset_bounds-pairs-i : goal.offset_bounds-pairs-i
-offset_bounds-pairs-i c = omega arith
-
-pub bounds-pairs-i : goal.bounds-pairs-i
-bounds-pairs-i c = omega arith
-
 pub returns-then-w-day : goal.returns-then-w-day
 returns-then-w-day c =
     let v = c.before.before.before.before.loop-i in
     let a = c.before.before.before.before.before.args in
     sym (among_yes a.pairs a.n v.i _ (omega arith) (omega arith) a.day c.if-w-day.true) ∙ v.invariant.1
-
-pub overflow_add-i : goal.overflow_add-i
-overflow_add-i c = omega arith
-
-pub loop-i-smaller : goal.loop-i-smaller
-loop-i-smaller c = omega arith
 
 pub loop-i-preserved : goal.loop-i-preserved
 loop-i-preserved c =

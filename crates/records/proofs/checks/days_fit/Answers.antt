@@ -27,24 +27,6 @@ days l n d h b e = rw (e, last_of_lem l n d h b, first_of l n d h b, minus (get_
 room : {m : ℕ} → m ≤ 100000000 → Fits w32 (m + 40320)
 room h = omega arith
 
-pub bounds-pairs-0 : goal.bounds-pairs-0
-bounds-pairs-0 c = search rules
-
-pub overflow_sub-last : goal.overflow_sub-last
-overflow_sub-last c = search rules
-
-pub overflow_cast-last : goal.overflow_cast-last
-overflow_cast-last c = search rules
-
-pub offset_bounds-pairs-n : goal.offset_bounds-pairs-n
-offset_bounds-pairs-n c = search rules
-
-pub bounds-pairs-n : goal.bounds-pairs-n
-bounds-pairs-n c = search rules
-
-pub different_days-requires : goal.different_days-requires
-different_days-requires c = search rules
-
 pub overflow_add-result : goal.overflow_add-result
 overflow_add-result c =
     let s = c.before.before.before.before in

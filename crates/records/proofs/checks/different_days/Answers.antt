@@ -12,30 +12,6 @@ use Rattle.records.proofs.checks.different_days.Goals.{then-not-among, else-not-
 pub loop-i-init : goal.loop-i-init
 loop-i-init c = (omega arith, omega arith, omega arith)
 
-pub overflow_cast-w : goal.overflow_cast-w
-overflow_cast-w c = omega arith
-
-pub offset_bounds-pairs-i : goal.offset_bounds-pairs-i
-offset_bounds-pairs-i c = omega arith
-
-pub bounds-pairs-i : goal.bounds-pairs-i
-bounds-pairs-i c = omega arith
-
-pub overflow_add-i : goal.overflow_add-i
-overflow_add-i c = omega arith
-
-pub among-requires : goal.among-requires
-among-requires c = omega arith
-
-pub overflow_add-days : goal.overflow_add-days
-overflow_add-days c = omega arith
-
-pub overflow_add-i-in-loop-i : goal.overflow_add-i-in-loop-i
-overflow_add-i-in-loop-i c = omega arith
-
-pub loop-i-smaller : goal.loop-i-smaller
-loop-i-smaller c = omega arith
-
 pub loop-i-preserved : goal.loop-i-preserved
 loop-i-preserved c =
     let v = c.loop-i in

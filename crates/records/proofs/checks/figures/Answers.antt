@@ -11,24 +11,6 @@ use Rattle.records.proofs.checks.figures.Goals as goal
 pub loop-i-init : goal.loop-i-init
 loop-i-init c = (omega arith, refl, refl)
 
-pub offset_bounds-waiting-i : goal.offset_bounds-waiting-i
-offset_bounds-waiting-i c = omega arith
-
-pub bounds-waiting-i : goal.bounds-waiting-i
-bounds-waiting-i c = omega arith
-
-pub offset_bounds-pairs-i : goal.offset_bounds-pairs-i
-offset_bounds-pairs-i c = omega arith
-
-pub bounds-pairs-i : goal.bounds-pairs-i
-bounds-pairs-i c = omega arith
-
-pub overflow_add-i : goal.overflow_add-i
-overflow_add-i c = omega arith
-
-pub loop-i-smaller : goal.loop-i-smaller
-loop-i-smaller c = omega arith
-
 pub loop-i-preserved : goal.loop-i-preserved
 loop-i-preserved c =
     let v = c.before.before.before.loop-i in

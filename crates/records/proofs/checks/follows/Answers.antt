@@ -4,9 +4,6 @@ use borrow.Author.Rules.{rules}
 use Rattle.records.specs.Table.{follows_one}
 use Rattle.records.proofs.checks.follows.Goals as goal
 
-pub overflow_add-result : goal.overflow_add-result
-overflow_add-result c = search rules
-
 pub returns : goal.returns
 unfolding follows_one
 returns c = refl

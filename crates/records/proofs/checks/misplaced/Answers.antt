@@ -8,9 +8,6 @@ use Rattle.records.specs.Table.{misplaced}
 use Rattle.records.specs.State.{facts_of}
 use Rattle.records.proofs.checks.misplaced.Goals as goal
 
-pub bounds-r-0 : goal.bounds-r-0
-bounds-r-0 c = search rules
-
 pub returns-then-st : goal.returns-then-st
 unfolding misplaced facts_of sets kind
 returns-then-st c = sym (if_yes c.args.st.begun _ _ c.if-st.true)

@@ -39,16 +39,10 @@ whole c e f g =
 pub returns-then-st-ge30 : goal.returns-then-st-ge30
 returns-then-st-ge30 c = sym (whole c.before.before.before.before (le-leb _ _ c.if-st-ge30.true) refl refl)
 
-pub times_fit-requires : goal.times_fit-requires
-times_fit-requires c = search rules
-
 pub returns-then-not-times_fit : goal.returns-then-not-times_fit
 returns-then-not-times_fit c =
     let t = c.before.before in
     sym (whole t.before.before.before.before (lt-leb _ _ t.before.if-st-ge30.false) (sym t.times_fit.ensures ∙ c.if-not-times_fit.true) refl)
-
-pub field_at-requires : goal.field_at-requires
-field_at-requires c = search rules
 
 -- past the first two tests the coverage decides
 by-coverage : (c : At-After-field_at) {low : Bool}

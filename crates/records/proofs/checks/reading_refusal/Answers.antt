@@ -6,18 +6,9 @@ use Rattle.records.specs.Table.{reading_refusal}
 use Rattle.records.specs.State.{facts_of}
 use Rattle.records.proofs.checks.reading_refusal.Goals as goal
 
-pub bounds-r-1 : goal.bounds-r-1
-bounds-r-1 c = search rules
-
-pub chart_refusal-requires : goal.chart_refusal-requires
-chart_refusal-requires c = search rules
-
 pub returns-then-r-eq0 : goal.returns-then-r-eq0
 unfolding reading_refusal facts_of mark
 returns-then-r-eq0 c = rw (eq-eqb _ 0 c.if-r-eq0.true) c.chart_refusal.ensures
-
-pub chart_refusal-requires-2 : goal.chart_refusal-requires-2
-chart_refusal-requires-2 c = search rules
 
 pub returns : goal.returns
 unfolding reading_refusal facts_of mark

@@ -25,18 +25,6 @@ At-After-response = lts.After-response tie.the-claims reads.Pre reads.Post
 abbrev At-Else-m-l : Type 0
 At-Else-m-l = lts.Else2 tie.the-claims reads.Pre reads.Post
 
-pub read32-m-requires : goal.read32-m-requires
-read32-m-requires c = search rules
-
-pub length_of-l-requires : goal.length_of-l-requires
-length_of-l-requires c = search rules
-
-pub response-requires : goal.response-requires
-response-requires c = search rules
-
-pub overflow_mul-response : goal.overflow_mul-response
-overflow_mul-response c = search rules
-
 -- the definition from the length, the minute and the response minutes that the code has read, and from its first two tests
 whole : (c : At-After-response) {long begun : Bool}
     → let l = c.before.before in
@@ -70,18 +58,6 @@ unfolding follows
 returns-then-n-eq0 c =
     let st = c.args.st in
     sym (by_last c.before.before (ap (λ (n : ℕ). last_of (take n st.pairs)) c.if-n-eq0.true))
-
-pub overflow_sub-w : goal.overflow_sub-w
-overflow_sub-w c = search rules
-
-pub overflow_cast-w : goal.overflow_cast-w
-overflow_cast-w c = search rules
-
-pub offset_bounds-st-n : goal.offset_bounds-st-n
-offset_bounds-st-n c = search rules
-
-pub bounds-st-n : goal.bounds-st-n
-bounds-st-n c = search rules
 
 pub follows-requires : goal.follows-requires
 follows-requires c =

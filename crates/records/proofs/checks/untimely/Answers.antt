@@ -5,9 +5,6 @@ use Rattle.records.specs.Table.{untimely}
 use Rattle.records.specs.State.{facts_of}
 use Rattle.records.proofs.checks.untimely.Goals as goal
 
-pub read32-m-requires : goal.read32-m-requires
-read32-m-requires c = search rules
-
 pub returns : goal.returns
 unfolding untimely facts_of minute
 returns c = rw c.read32-m.ensures

@@ -31,17 +31,11 @@ whole f r t {none} e p q =
     ∙ ap (λ (b : Bool). if not b then t.refusal else (if not (stores_test t (length f.pending) r) then 25 else 0)) p
     ∙ ap (λ (b : Bool). if not none then t.refusal else (if not b then 25 else 0)) q
 
-pub annual_result-t-requires : goal.annual_result-t-requires
-annual_result-t-requires c = search rules
-
 pub returns-then-t-ne0 : goal.returns-then-t-ne0
 returns-then-t-ne0 c =
     let k = c.before.before.before in
     let a = k.before.before.args in
     sym (whole (facts_of a.st) a.r.now k.annual_result-t.result k.annual_result-t.ensures (ne_eqb _ 0 c.if-t-ne0.true) refl)
-
-pub stores_test-requires : goal.stores_test-requires
-stores_test-requires c = search rules
 
 -- past the first test the stored figures decide
 by-stores : (c : At-After-stores_test) {stores : Bool}

@@ -52,9 +52,6 @@ few : (s : Start) → length (facts_of s.args.st).pending ≤ 30
 unfolding facts_of
 few s = omega (arith, s.requires.1.pending, length-take s.args.st.pending s.args.st.pairs)
 
-pub field_at-requires : goal.field_at-requires
-field_at-requires c = search rules
-
 pub calibration_result-c-requires : goal.calibration_result-c-requires
 calibration_result-c-requires c = let s = c.before.before.before in (s.requires.1, s.requires.2, subst ZRanged (sym (z-is c.before)) s.requires.3)
 

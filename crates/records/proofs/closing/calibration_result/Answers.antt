@@ -49,12 +49,6 @@ figures-are c =
     let st = c.before.before.before.before.before.before.before.args.st in
     ap (take st.pending) c.figures.ensures ∙ sym (map_take pair_of_waiting st.pending st.pairs)
 
-pub count_fits-requires : goal.count_fits-requires
-count_fits-requires c = search rules
-
-pub refused_fit-requires : goal.refused_fit-requires
-refused_fit-requires c = search rules
-
 pub returns-then-not-count_fits : goal.returns-then-not-count_fits
 returns-then-not-count_fits c =
     let k = c.before.before in
@@ -65,17 +59,11 @@ days_fit-requires c =
     let s = c.before.before.before in
     (count_above s.args.st.pending (fits c.before), s.requires.0.pending, s.requires.0.pairs)
 
-pub refused_fit-requires-then-not-days_fit : goal.refused_fit-requires-then-not-days_fit
-refused_fit-requires-then-not-days_fit c = search rules
-
 pub returns-then-not-days_fit : goal.returns-then-not-days_fit
 returns-then-not-days_fit c =
     let d = c.before.before in
     let e = d.before.before in
     c.refused_fit-then-not-days_fit.ensures ∙ sym (whole e.before.before (fits e) (sym d.days_fit.ensures ∙ c.before.if-not-days_fit.true))
-
-pub figures-requires : goal.figures-requires
-figures-requires c = search rules
 
 pub fit-requires : goal.fit-requires
 fit-requires c =

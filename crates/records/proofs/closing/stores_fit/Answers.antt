@@ -43,39 +43,6 @@ intercept-fits c = search rules
 top-fits : (c : At-After-struct_told-3-1) → SFits w32 c.before.before.before.before.before.before.before.before.before.before.before.args.c.top.0
 top-fits c = search rules
 
-pub bounds-r-1 : goal.bounds-r-1
-bounds-r-1 c = search rules
-
-pub pass_mark-requires : goal.pass_mark-requires
-pass_mark-requires c = search rules
-
-pub field_at-requires : goal.field_at-requires
-field_at-requires c = search rules
-
-pub same-requires : goal.same-requires
-same-requires c = search rules
-
-pub long_field_at-requires : goal.long_field_at-requires
-long_field_at-requires c = search rules
-
-pub same_long-requires : goal.same_long-requires
-same_long-requires c = search rules
-
-pub field_at-requires-2 : goal.field_at-requires-2
-field_at-requires-2 c = search rules
-
-pub same-requires-2 : goal.same-requires-2
-same-requires-2 c = search rules
-
-pub field_at-requires-3 : goal.field_at-requires-3
-field_at-requires-3 c = search rules
-
-pub overflow_cast-c : goal.overflow_cast-c
-overflow_cast-c c = search rules
-
-pub same-requires-3 : goal.same-requires-3
-same-requires-3 c = search rules
-
 pub returns : goal.returns
 unfolding mark
 returns c =

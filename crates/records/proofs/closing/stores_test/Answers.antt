@@ -16,21 +16,6 @@ whole : (t : Tested) (n : ℕ) (r : Record) {m : ℕ} {b : Bool} → m ≡ test_
 unfolding stores_test
 whole t n r e f = rw (e, f)
 
-pub bounds-r-1 : goal.bounds-r-1
-bounds-r-1 c = search rules
-
-pub test_mark-requires : goal.test_mark-requires
-test_mark-requires c = search rules
-
-pub field_at-requires : goal.field_at-requires
-field_at-requires c = search rules
-
-pub overflow_cast-n : goal.overflow_cast-n
-overflow_cast-n c = search rules
-
-pub same-requires : goal.same-requires
-same-requires c = search rules
-
 pub returns : goal.returns
 unfolding mark
 returns c =

@@ -31,9 +31,6 @@ intercept-back : (c : Start) → let a = c.args.f.intercept in to_z w64 (of_z w6
 unfolding line_of
 intercept-back c = to_z-of_z {w = w64} (between_fits tt c.requires.2.intercept)
 
-pub figures-requires : goal.figures-requires
-figures-requires c = search rules
-
 pub annual_test-requires : goal.annual_test-requires
 unfolding line_of
 annual_test-requires c =

@@ -25,12 +25,6 @@ reading c = given w32 c.field_at.type_inv c.field_at.ensures
 reference : (c : At-After-field_at-2) → to_z w32 (of_z w32 c.field_at-2.result) ≡ field c.before.before.before.args.r.now 12
 reference c = given w32 c.field_at-2.type_inv c.field_at-2.ensures
 
-pub field_at-requires : goal.field_at-requires
-field_at-requires c = search rules
-
-pub field_at-requires-2 : goal.field_at-requires-2
-field_at-requires-2 c = search rules
-
 pub difference-requires : goal.difference-requires
 difference-requires c =
     let d = reading_fields _ c.requires.1 in

@@ -6,12 +6,6 @@ use Rattle.records.specs.Record.{field, signed32}
 use Rattle.records.proofs.SignedLaws.{given}
 use Rattle.records.proofs.fields.field_at.Goals as goal
 
-pub read32-requires : goal.read32-requires
-read32-requires c = search rules
-
-pub signed-requires : goal.signed-requires
-signed-requires c = search rules
-
 pub returns : goal.returns
 unfolding field
 returns c = given w32 c.signed.type_inv (c.signed.ensures ∙ ap signed32 c.read32.ensures)

@@ -5,18 +5,6 @@ use Rattle.records.specs.Record.{function_of, minute}
 use Rattle.records.proofs.SignedLaws.{given}
 use Rattle.records.proofs.fields.function_of.Goals as goal
 
-pub field_at-requires : goal.field_at-requires
-field_at-requires c = search rules
-
-pub long_field_at-requires : goal.long_field_at-requires
-long_field_at-requires c = search rules
-
-pub field_at-requires-2 : goal.field_at-requires-2
-field_at-requires-2 c = search rules
-
-pub read32-requires : goal.read32-requires
-read32-requires c = search rules
-
 pub returns : goal.returns
 unfolding function_of minute
 returns c =

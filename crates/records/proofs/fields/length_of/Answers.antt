@@ -21,9 +21,6 @@ At-After-field_at = lts.After-field_at tie.the-claims from.Pre from.Post
 reads : (c : At-After-field_at) → to_z w32 (of_z w32 c.field_at.result) ≡ field c.before.before.args.r.now 8
 reads c = given w32 c.field_at.type_inv c.field_at.ensures
 
-pub field_at-requires : goal.field_at-requires
-field_at-requires c = search rules
-
 pub overflow_cast-result : goal.overflow_cast-result
 overflow_cast-result c = unsigned_need w32 (lit< tt) (reads c.before) (waiting_fields _ c.requires.1).length
 

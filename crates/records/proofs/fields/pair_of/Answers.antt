@@ -5,15 +5,6 @@ use Rattle.records.specs.Record.{pair_of}
 use Rattle.records.proofs.SignedLaws.{given}
 use Rattle.records.proofs.fields.pair_of.Goals as goal
 
-pub field_at-requires : goal.field_at-requires
-field_at-requires c = search rules
-
-pub field_at-requires-2 : goal.field_at-requires-2
-field_at-requires-2 c = search rules
-
-pub conditions_at-requires : goal.conditions_at-requires
-conditions_at-requires c = search rules
-
 pub returns : goal.returns
 unfolding pair_of
 returns c =

@@ -5,15 +5,6 @@ use Rattle.records.specs.Record.{requirements_of}
 use Rattle.records.proofs.SignedLaws.{given}
 use Rattle.records.proofs.fields.requirements_of.Goals as goal
 
-pub field_at-requires : goal.field_at-requires
-field_at-requires c = search rules
-
-pub field_at-requires-2 : goal.field_at-requires-2
-field_at-requires-2 c = search rules
-
-pub field_at-requires-3 : goal.field_at-requires-3
-field_at-requires-3 c = search rules
-
 pub returns : goal.returns
 unfolding requirements_of
 returns c =

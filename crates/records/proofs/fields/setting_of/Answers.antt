@@ -32,23 +32,11 @@ span c = given w32 c.field_at-2.type_inv c.field_at-2.ensures
 response : (c : At-After-field_at-3) → to_z w32 (of_z w32 c.field_at-3.result) ≡ field c.before.before.before.before.before.args.r.now 28
 response c = given w32 c.field_at-3.type_inv c.field_at-3.ensures
 
-pub requirements_of-requires : goal.requirements_of-requires
-requirements_of-requires c = search rules
-
-pub field_at-requires : goal.field_at-requires
-field_at-requires c = search rules
-
 pub overflow_cast-result : goal.overflow_cast-result
 overflow_cast-result c = unsigned_need w16 (lit< tt) (zero c.before) (setting_fields _ c.requires.1).zero
 
-pub field_at-requires-2 : goal.field_at-requires-2
-field_at-requires-2 c = search rules
-
 pub overflow_cast-result-2 : goal.overflow_cast-result-2
 overflow_cast-result-2 c = unsigned_need w16 (lit< tt) (span c.before) (setting_fields _ c.requires.1).span
-
-pub field_at-requires-3 : goal.field_at-requires-3
-field_at-requires-3 c = search rules
 
 pub overflow_cast-result-3 : goal.overflow_cast-result-3
 overflow_cast-result-3 c = unsigned_need w32 (lit< tt) (response c.before) (setting_fields _ c.requires.1).response

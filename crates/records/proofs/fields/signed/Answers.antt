@@ -10,18 +10,9 @@ use Rattle.records.specs.Record.{signed32}
 use Rattle.records.proofs.SignedLaws.{minus_need, minus_reads}
 use Rattle.records.proofs.fields.signed.Goals as goal
 
-pub overflow_cast-result : goal.overflow_cast-result
-overflow_cast-result c = search rules
-
 pub returns-then-n-lt2147483648 : goal.returns-then-n-lt2147483648
 unfolding signed32
 returns-then-n-lt2147483648 c = to_z_pos w32 c.if-n-lt2147483648.true ∙ sym (rw (lt-ltb _ _ c.if-n-lt2147483648.true))
-
-pub overflow_sub-result : goal.overflow_sub-result
-overflow_sub-result c = search rules
-
-pub overflow_cast-result-2 : goal.overflow_cast-result-2
-overflow_cast-result-2 c = search rules
 
 pub overflow_sub-result-2 : goal.overflow_sub-result-2
 overflow_sub-result-2 c = minus_need w32 (4294967295 - c.before.args.n) (omega arith)

@@ -10,18 +10,9 @@ use Rattle.records.specs.Record.{signed64}
 use Rattle.records.proofs.SignedLaws.{minus_need, minus_reads}
 use Rattle.records.proofs.fields.signed_long.Goals as goal
 
-pub overflow_cast-result : goal.overflow_cast-result
-overflow_cast-result c = search rules
-
 pub returns-then-n-lt9223372036854775808 : goal.returns-then-n-lt9223372036854775808
 unfolding signed64
 returns-then-n-lt9223372036854775808 c = to_z_pos w64 c.if-n-lt9223372036854775808.true ∙ sym (rw (lt-ltb _ _ c.if-n-lt9223372036854775808.true))
-
-pub overflow_sub-result : goal.overflow_sub-result
-overflow_sub-result c = search rules
-
-pub overflow_cast-result-2 : goal.overflow_cast-result-2
-overflow_cast-result-2 c = search rules
 
 pub overflow_sub-result-2 : goal.overflow_sub-result-2
 overflow_sub-result-2 c = minus_need w64 (18446744073709551615 - c.before.args.n) (omega arith)

@@ -4,18 +4,9 @@ use native.Mathlib.Omega.{arith}
 use Rattle.records.specs.Record.{waiting_of, minute}
 use Rattle.records.proofs.fields.waiting_of.Goals as goal
 
-pub read32-end-requires : goal.read32-end-requires
-read32-end-requires c = search rules
-
-pub length_of-requires : goal.length_of-requires
-length_of-requires c = search rules
-
 pub overflow_sub-result : goal.overflow_sub-result
 unfolding minute
 overflow_sub-result c = omega (arith, c.requires.2, c.length_of.ensures.0, c.read32-end.ensures)
-
-pub pair_of-requires : goal.pair_of-requires
-pair_of-requires c = search rules
 
 pub returns : goal.returns
 unfolding waiting_of minute

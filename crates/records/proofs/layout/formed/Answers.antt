@@ -12,33 +12,6 @@ use Rattle.records.proofs.layout.formed.Goals as goal
 past : (k m : ℕ) → m ≤ k → (k ≡ m → ⊥) → m + 1 ≤ k
 past k m h n = omega arith
 
-pub bounds-r-0 : goal.bounds-r-0
-bounds-r-0 c = search rules
-
-pub plain-requires : goal.plain-requires
-plain-requires c = search rules
-
-pub plain-requires-in-2 : goal.plain-requires-in-2
-plain-requires-in-2 c = search rules
-
-pub plain-requires-in-3 : goal.plain-requires-in-3
-plain-requires-in-3 c = search rules
-
-pub plain-requires-in-4 : goal.plain-requires-in-4
-plain-requires-in-4 c = search rules
-
-pub plain-requires-in-5 : goal.plain-requires-in-5
-plain-requires-in-5 c = search rules
-
-pub plain-requires-in-6 : goal.plain-requires-in-6
-plain-requires-in-6 c = search rules
-
-pub plain-requires-in-7 : goal.plain-requires-in-7
-plain-requires-in-7 c = search rules
-
-pub plain-requires-in-8 : goal.plain-requires-in-8
-plain-requires-in-8 c = search rules
-
 pub returns-in-1 : goal.returns-in-1
 unfolding formed_of kind mark_limit fields_end
 returns-in-1 c = rw c.in-1.is c.plain.ensures

@@ -8,18 +8,6 @@ use lib.Seq.{take_all}
 use Rattle.records.specs.Record.{plain_of, mark}
 use Rattle.records.proofs.layout.plain.Goals as goal
 
-pub bounds-r-1 : goal.bounds-r-1
-bounds-r-1 c = search rules
-
-pub bounds-r-2 : goal.bounds-r-2
-bounds-r-2 c = search rules
-
-pub bounds-r-3 : goal.bounds-r-3
-bounds-r-3 c = search rules
-
-pub all_zero-requires : goal.all_zero-requires
-all_zero-requires c = search rules
-
 pub returns : goal.returns
 unfolding plain_of mark
 returns c =

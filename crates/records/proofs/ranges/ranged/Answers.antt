@@ -8,27 +8,6 @@ use Rattle.records.specs.Record.{ranged_of, kind, z_of}
 use Rattle.records.proofs.SignedLaws.{given}
 use Rattle.records.proofs.ranges.ranged.Goals as goal
 
-pub bounds-r-0 : goal.bounds-r-0
-bounds-r-0 c = search rules
-
-pub setting_ranged-requires : goal.setting_ranged-requires
-setting_ranged-requires c = search rules
-
-pub reading_ranged-requires : goal.reading_ranged-requires
-reading_ranged-requires c = search rules
-
-pub waiting_ranged-requires : goal.waiting_ranged-requires
-waiting_ranged-requires c = search rules
-
-pub field_at-requires : goal.field_at-requires
-field_at-requires c = search rules
-
-pub z_ranged-requires : goal.z_ranged-requires
-z_ranged-requires c = search rules
-
-pub value_ranged-requires : goal.value_ranged-requires
-value_ranged-requires c = search rules
-
 pub returns-in-1 : goal.returns-in-1
 unfolding ranged_of kind
 returns-in-1 c = rw c.in-1.is c.setting_ranged.ensures

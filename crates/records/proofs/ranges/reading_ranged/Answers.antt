@@ -5,23 +5,11 @@ use Rattle.records.specs.Record.{reading_ranged}
 use Rattle.records.proofs.SignedLaws.{given_wide, given_between}
 use Rattle.records.proofs.ranges.reading_ranged.Goals as goal
 
-pub field_at-requires : goal.field_at-requires
-field_at-requires c = search rules
-
 pub overflow_cast-field_at : goal.overflow_cast-field_at
 overflow_cast-field_at c = given_wide c.field_at.result c.field_at.type_inv
 
-pub between-requires : goal.between-requires
-between-requires c = search rules
-
-pub field_at-requires-2 : goal.field_at-requires-2
-field_at-requires-2 c = search rules
-
 pub overflow_cast-field_at-2 : goal.overflow_cast-field_at-2
 overflow_cast-field_at-2 c = given_wide c.field_at-2.result c.field_at-2.type_inv
-
-pub between-requires-2 : goal.between-requires-2
-between-requires-2 c = search rules
 
 pub returns : goal.returns
 unfolding reading_ranged

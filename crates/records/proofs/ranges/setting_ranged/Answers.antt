@@ -5,38 +5,14 @@ use Rattle.records.specs.Record.{setting_ranged}
 use Rattle.records.proofs.SignedLaws.{given_wide, given_between}
 use Rattle.records.proofs.ranges.setting_ranged.Goals as goal
 
-pub requirements_of-requires : goal.requirements_of-requires
-requirements_of-requires c = search rules
-
-pub requirements_ranged-requires : goal.requirements_ranged-requires
-requirements_ranged-requires c = search rules
-
-pub field_at-requires : goal.field_at-requires
-field_at-requires c = search rules
-
 pub overflow_cast-field_at : goal.overflow_cast-field_at
 overflow_cast-field_at c = given_wide c.field_at.result c.field_at.type_inv
-
-pub between-requires : goal.between-requires
-between-requires c = search rules
-
-pub field_at-requires-2 : goal.field_at-requires-2
-field_at-requires-2 c = search rules
 
 pub overflow_cast-field_at-2 : goal.overflow_cast-field_at-2
 overflow_cast-field_at-2 c = given_wide c.field_at-2.result c.field_at-2.type_inv
 
-pub between-requires-2 : goal.between-requires-2
-between-requires-2 c = search rules
-
-pub field_at-requires-3 : goal.field_at-requires-3
-field_at-requires-3 c = search rules
-
 pub overflow_cast-field_at-3 : goal.overflow_cast-field_at-3
 overflow_cast-field_at-3 c = given_wide c.field_at-3.result c.field_at-3.type_inv
-
-pub between-requires-3 : goal.between-requires-3
-between-requires-3 c = search rules
 
 pub returns : goal.returns
 unfolding setting_ranged

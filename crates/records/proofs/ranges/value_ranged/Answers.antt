@@ -5,20 +5,8 @@ use Rattle.records.specs.Record.{value_ranged, signal_of, value_conditions}
 use Rattle.records.proofs.SignedLaws.{given_wide, given_between}
 use Rattle.records.proofs.ranges.value_ranged.Goals as goal
 
-pub field_at-requires : goal.field_at-requires
-field_at-requires c = search rules
-
 pub overflow_cast-field_at : goal.overflow_cast-field_at
 overflow_cast-field_at c = given_wide c.field_at.result c.field_at.type_inv
-
-pub between-requires : goal.between-requires
-between-requires c = search rules
-
-pub conditions_at-requires : goal.conditions_at-requires
-conditions_at-requires c = search rules
-
-pub conditions_ranged-requires : goal.conditions_ranged-requires
-conditions_ranged-requires c = search rules
 
 pub returns : goal.returns
 unfolding value_ranged signal_of value_conditions

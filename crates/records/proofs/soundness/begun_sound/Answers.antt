@@ -5,11 +5,5 @@ use borrow.Author.Rules.{rules}
 use Rattle.records.specs.Soundness.{begun_sound_of}
 use Rattle.records.proofs.soundness.begun_sound.Goals as goal
 
-pub setting_sound-requires : goal.setting_sound-requires
-setting_sound-requires c = search rules
-
 pub returns-then-begun : goal.returns-then-begun
 returns-then-begun c = c.setting_sound.ensures ∙ sym (ap (λ (b : Bool). begun_sound_of b c.before.before.args.s) c.before.if-begun.true)
-
-pub returns : goal.returns
-returns c = search rules

@@ -9,15 +9,6 @@ use Rattle.records.proofs.soundness.pairs_sound.Goals as goal
 pub loop-i-init : goal.loop-i-init
 loop-i-init c = (omega arith, refl)
 
-pub overflow_cast-w : goal.overflow_cast-w
-overflow_cast-w c = omega arith
-
-pub offset_bounds-pairs-i : goal.offset_bounds-pairs-i
-offset_bounds-pairs-i c = omega arith
-
-pub bounds-pairs-i : goal.bounds-pairs-i
-bounds-pairs-i c = omega arith
-
 pub waiting_sound-requires : goal.waiting_sound-requires
 waiting_sound-requires c = tt
 
@@ -27,12 +18,6 @@ returns-then-not-waiting_sound c =
     let v = k.before.before.before.loop-i in
     let a = k.before.before.before.before.args in
     sym (sound_no a.pairs a.n v.i _ (omega arith) (omega arith) (sym k.waiting_sound.ensures ∙ c.if-not-waiting_sound.true)) ∙ v.invariant.1
-
-pub overflow_add-i : goal.overflow_add-i
-overflow_add-i c = omega arith
-
-pub loop-i-smaller : goal.loop-i-smaller
-loop-i-smaller c = omega arith
 
 pub loop-i-preserved : goal.loop-i-preserved
 loop-i-preserved c =

@@ -3,9 +3,6 @@ use borrow.Author.Rules.{rules}
 use Rattle.records.specs.Soundness.{setting_sound_of}
 use Rattle.records.proofs.soundness.setting_sound.Goals as goal
 
-pub requirements_ranged-requires : goal.requirements_ranged-requires
-requirements_ranged-requires c = search rules
-
 pub returns : goal.returns
 unfolding setting_sound_of
 returns c = rw c.before.before.before.requirements_ranged.ensures

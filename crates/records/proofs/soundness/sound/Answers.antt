@@ -10,21 +10,6 @@ returns-then-st-gt30 c =
     let a = c.before.before.args in
     same_answer (record { sure = λ t. absurd t; back = λ s. absurd (omega (arith, s.pending)) }) (sound_answers a.most a.st)
 
-pub begun_sound-requires : goal.begun_sound-requires
-begun_sound-requires c = search rules
-
-pub sound-requires : goal.sound-requires
-sound-requires c = search rules
-
-pub sound-requires-2 : goal.sound-requires-2
-sound-requires-2 c = search rules
-
-pub pairs_sound-requires : goal.pairs_sound-requires
-pairs_sound-requires c = search rules
-
-pub calibration_sound-requires : goal.calibration_sound-requires
-calibration_sound-requires c = search rules
-
 pub returns : goal.returns
 unfolding sound_of
 returns c =

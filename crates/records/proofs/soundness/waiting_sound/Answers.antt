@@ -3,9 +3,6 @@ use borrow.Author.Rules.{rules}
 use Rattle.records.specs.Soundness.{waiting_sound_of}
 use Rattle.records.proofs.soundness.waiting_sound.Goals as goal
 
-pub pair_ranged-requires : goal.pair_ranged-requires
-pair_ranged-requires c = search rules
-
 pub returns : goal.returns
 unfolding waiting_sound_of
 returns c = rw c.pair_ranged.ensures

@@ -34,12 +34,6 @@ free : (f : Facts) (r : Record) → (kind r ≡ 2 → ⊥) → (kind r ≡ 4 →
 unfolding kind_refusal
 free f r a b c d e = rw (ne_eqb (kind r) 2 a, ne_eqb (kind r) 4 b, ne_eqb (kind r) 5 c, ne_eqb (kind r) 6 d, ne_eqb (kind r) 7 e)
 
-pub bounds-r-0 : goal.bounds-r-0
-bounds-r-0 c = search rules
-
-pub reading_refusal-requires : goal.reading_refusal-requires
-reading_refusal-requires c = search rules
-
 pub pair_refusal-requires : goal.pair_refusal-requires
 unfolding kind
 pair_refusal-requires c =
@@ -60,9 +54,6 @@ unfolding kind
 annual_refusal-requires c =
     let s = c.before.before.before.before in
     (s.requires.0, s.requires.1, known s 6 c.in-6.is refl)
-
-pub value_refusal-requires : goal.value_refusal-requires
-value_refusal-requires c = search rules
 
 pub returns-in-2 : goal.returns-in-2
 unfolding kind_refusal kind

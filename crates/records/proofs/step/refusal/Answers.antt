@@ -43,33 +43,21 @@ timed c = sym c.before.untimely.ensures ∙ c.if-untimely.false
 ranged : (c : At-Else-not-ranged) → let s = c.before.before.before.before.before.before.before.before.before in ranged_of s.args.r.now ≡ true
 ranged c = sym c.before.ranged.ensures ∙ c.if-not-ranged.false
 
-pub formed-requires : goal.formed-requires
-formed-requires c = search rules
-
 pub returns-then-not-formed : goal.returns-then-not-formed
 returns-then-not-formed c =
     let s = c.before.before.before.before in
     sym (whole (facts_of s.args.st) s.args.r.now (sym c.formed.ensures ∙ c.if-not-formed.true) refl refl refl)
-
-pub misplaced-requires : goal.misplaced-requires
-misplaced-requires c = search rules
 
 pub returns-then-misplaced : goal.returns-then-misplaced
 returns-then-misplaced c =
     let s = c.before.before.before.before.before.before in
     sym (whole (facts_of s.args.st) s.args.r.now (formed c.before.before.before) (sym c.misplaced.ensures ∙ c.if-misplaced.true) refl refl)
 
-pub untimely-requires : goal.untimely-requires
-untimely-requires c = search rules
-
 pub returns-then-untimely : goal.returns-then-untimely
 returns-then-untimely c =
     let p = c.before.before.before in
     let s = p.before.before.before.before.before in
     sym (whole (facts_of s.args.st) s.args.r.now (formed p.before.before) (placed p) (sym c.untimely.ensures ∙ c.if-untimely.true) refl)
-
-pub ranged-requires : goal.ranged-requires
-ranged-requires c = search rules
 
 pub returns-then-not-ranged : goal.returns-then-not-ranged
 returns-then-not-ranged c =

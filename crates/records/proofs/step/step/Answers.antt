@@ -19,9 +19,6 @@ applied : (st : State) (r : Record) → refusal_in (facts_of st) r ≡ 0 → ste
 unfolding step_of
 applied st r e = if_yes _ _ _ (eq-eqb (refusal_in (facts_of st) r) 0 e)
 
-pub refusal-n-requires : goal.refusal-n-requires
-refusal-n-requires c = search rules
-
 pub returns-then-n-ne0 : goal.returns-then-n-ne0
 returns-then-n-ne0 c =
     let a = c.args in
