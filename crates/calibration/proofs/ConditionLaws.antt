@@ -1,15 +1,15 @@
 -- How large a value in standard conditions can be. Of the rounding only its laws are used.
-use Rattle.std.specs.Prelude.{◌≡◌, refl, ◌&&◌, ℕ, ◌*◌, ◌^◌, ◌≤◌, T, leb, ltb, ℤ, pos, neg_ℤ, nat_abs, ◌+ℤ◌, ◌-ℤ◌, ◌*ℤ◌, ◌<ℤ◌}
+use Rattle.std.specs.Prelude.{◌≡◌, refl, ◌&&◌, ℕ, ◌*◌, ◌^◌, ◌≤◌, T, leb, ltb, ℤ, pos, nat_abs, ◌+ℤ◌, ◌-ℤ◌, ◌*ℤ◌, ◌<ℤ◌}
 use Rattle.std.proofs.Common.{ap, arith, mul-le-mul, mul-le-mul_left, SFits}
 use Rattle.std.specs.Int.Signed.{≤ℤ_refl}
 use Rattle.std.specs.Int.{w32}
-use Rattle.charts.specs.Tests.{Answers, answers_le, answers_lt, answers_and, answers_as}
+use Rattle.charts.specs.Tests.{answers_le, answers_lt, answers_and}
 use Rattle.charts.proofs.RoundingLaws.{near_bound}
 use Rattle.charts.specs.Integers.{ints, diff, le_ud, ud_le, ud_lt, +ℤ-mono, abs_sum, abs_prod, abs_sfits}
-use Rattle.calibration.specs.Pairs.{Between, between_answers, ConditionsRanged, OxygenRanged, PairRanged}
+use Rattle.calibration.specs.Pairs.{Between, ConditionsRanged, OxygenRanged, PairRanged}
 use Rattle.calibration.specs.PairLaws.{between_abs, between_size}
 use Rattle.calibration.specs.Conditions.{times_of, standard_of}
-use Rattle.calibration.specs.Calibration.{measured_of, calibrated_of, value_of, c_of, LineRanged, line_ranged_of}
+use Rattle.calibration.specs.Calibration.{measured_of, calibrated_of, value_of, c_of, LineRanged}
 use Rattle.calibration.specs.declared.Actual.{Actual}
 use Rattle.calibration.specs.declared.Conditions.{Conditions}
 use Rattle.calibration.specs.declared.Pair.{Pair}

@@ -1,17 +1,16 @@
 -- What a chart shows after a reset and any readings, newest first: its three sums are those of its terms, and its alarms stand exactly where some run says so.
-use Rattle.std.specs.Prelude.{◌≡◌, refl, Bool, true, false, ◌&&◌, List, [], ◌∷◌, map, ℕ, suc, ◌+◌, ◌*◌, ℤ, pos, neg_ℤ, ◌-ℤ◌, ◌*ℤ◌, length}
-use Rattle.std.proofs.Common.{sym, ap, ◌∙◌, add-one, arith}
+use Rattle.std.specs.Prelude.{◌≡◌, refl, Bool, true, false, ◌&&◌, List, [], ◌∷◌, ℕ, ◌*◌, ℤ, pos, neg_ℤ, ◌-ℤ◌, ◌*ℤ◌, length}
+use Rattle.std.proofs.Common.{ap, add-one, arith}
 use Rattle.charts.specs.Integers.{prod, up_neg, dn_neg, ud_eq}
 use Rattle.charts.specs.Tests.{Answers, answers_as}
 use Rattle.charts.proofs.StandingLaws.{stands_from, run_length, run_some, run_there, run_above}
-use Rattle.charts.specs.Sums.{empty, added}
-use Rattle.charts.specs.Charts.{rising_term, falling_term, precision_term, drift_limit, precision_limit, over, alarms_of, adjustment_of, blank, reset_of, applied_of}
-use Rattle.charts.specs.Runs.{Alarm, rising, falling, precision, RunOver, newest, drift_term, terms, limit_of, Stands}
+use Rattle.charts.specs.Sums.{added}
+use Rattle.charts.specs.Charts.{rising_term, falling_term, drift_limit, precision_limit, over, alarms_of, blank, reset_of, applied_of}
+use Rattle.charts.specs.Runs.{Alarm, rising, falling, precision, RunOver, drift_term, terms, limit_of, Stands}
 use Rattle.charts.specs.ChartLaws.{Reading, differences, after_readings, sum_of, alarm_of, Charted}
 use Rattle.charts.specs.RunLaws.{summed, Shows, shows, over_answers}
 use Rattle.charts.specs.declared.Sum.{Sum}
 use Rattle.charts.specs.declared.Chart.{Chart}
-use Rattle.charts.specs.declared.Alarms.{Alarms}
 
 pub reset_charted : (s : ℕ) (c : Chart) → Charted s [] (reset_of c)
 unfolding reset_of summed

@@ -1,6 +1,6 @@
 -- Paper 01, 'Charts (7.2-7.6)', and paper 02, C-12: a chart of three sums, of differences in hundredths of mg/m³. s is what the setting has for
 -- the chart; only the adjustments are rounded, by the edition of the reading's block.
-use Rattle.std.specs.Prelude.{Bool, true, false, ◌&&◌, ℕ, ◌+◌, ◌*◌, ltb, ℤ, pos, neg_ℤ, nat_abs, ◌+ℤ◌, ◌-ℤ◌, ◌*ℤ◌, if◌then◌else◌}
+use Rattle.std.specs.Prelude.{Bool, true, false, ◌&&◌, ℕ, ◌+◌, ◌*◌, ltb, ℤ, pos, neg_ℤ, nat_abs, ◌-ℤ◌, ◌*ℤ◌, if◌then◌else◌}
 use Rattle.charts.specs.Rounding.{near_of}
 use Rattle.charts.specs.Sums.{empty, added}
 use Rattle.charts.specs.declared.Sum.{Sum}

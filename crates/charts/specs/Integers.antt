@@ -1,7 +1,7 @@
 -- Integers for `omega`, which reads natural numbers only: z is `up z - dn z`, its part above 0 less its part below 0, one of them 0.
 -- A fact of ℤ becomes one of these parts (`eq_ud`, `le_ud`, `lt_ud`), and a goal of ℤ follows from one (`ud_eq`, `ud_le`, `ud_lt`): the set `ints` has them all.
 -- Beside it `omega` wants a fact for each operation in sight, at its operands: `sum a b`, `diff a b`, `prod a b`.
-use Rattle.std.specs.Prelude.{◌≡◌, refl, Bool, true, false, not, cond, ℕ, zero, suc, ◌+◌, ◌-◌, ◌*◌, ◌/◌, ◌%◌, ◌^◌, ◌≤◌, ◌<◌, min, ◌⊎◌, T, ltb, leb, ℤ, pos, negsuc, neg_ℤ, nat_abs, ◌+ℤ◌, ◌-ℤ◌, ◌*ℤ◌, ◌≤ℤ◌, ◌<ℤ◌}
+use Rattle.std.specs.Prelude.{◌≡◌, refl, Bool, true, false, not, cond, ℕ, zero, suc, ◌+◌, ◌-◌, ◌*◌, ◌^◌, ◌≤◌, ◌<◌, min, ◌⊎◌, T, ltb, ℤ, pos, negsuc, neg_ℤ, nat_abs, ◌+ℤ◌, ◌-ℤ◌, ◌*ℤ◌, ◌≤ℤ◌, ◌<ℤ◌}
 use Rattle.std.proofs.Common.{sym, ap, ◌∙◌, subst, arith, inl, inr, leb-false, mul-le-mul_left, ltb→lt, nltb→le, lt→ltb, le→leb, leb→le}
 use Rattle.std.proofs.Math.IntN.{sub_ℕ}
 use Rattle.std.specs.Int.Signed.{mag, lt_z, le_z, <ℤ_irrefl, <ℤ-≤ℤ_trans, lt_z_yes, le_z_yes}

@@ -1,7 +1,7 @@
 -- The run theorem: what a sum and its count say of the runs in its terms. Over any list of terms, newest first.
-use Rattle.std.specs.Prelude.{◌≡◌, refl, Bool, true, false, not, List, [], ◌∷◌, ℕ, zero, suc, ◌+◌, ◌<◌, ◌≤◌, T, ltb, ℤ, pos, negsuc, nat_abs, ◌+ℤ◌, take, length, ◌<ℤ◌, ◌≤ℤ◌, if◌then◌else◌}
-use Rattle.std.proofs.Common.{sym, ap, ◌∙◌, add-one, arith, ltb→lt, lt→ltb}
-use Rattle.std.specs.Int.Signed.{lt_z, lt_z_yes, lt_z_no, pos-nat_abs}
+use Rattle.std.specs.Prelude.{◌≡◌, refl, not, List, [], ◌∷◌, ℕ, zero, suc, ◌+◌, ◌<◌, ◌≤◌, T, ltb, ℤ, pos, nat_abs, ◌+ℤ◌, take, length, ◌<ℤ◌, ◌≤ℤ◌}
+use Rattle.std.proofs.Common.{sym, ap, ◌∙◌, add-one, arith}
+use Rattle.std.specs.Int.Signed.{lt_z, lt_z_yes, lt_z_no}
 use Rattle.charts.specs.Integers.{ints, up, dn, one_zero, abs_ud, eq_ud, ud_eq, lt_ud}
 use Rattle.charts.specs.Integers as Z
 use Rattle.charts.specs.Tests.{if_all, Answers, answers_lt_z, answers_as}

@@ -1,15 +1,15 @@
 -- A signed local holds bits, and each need of a signed operation speaks of what the machine reads back from them, `to_z w b`.
 -- `Loc w` is such a local: its bits, the number that they stand for, and that it fits. The code's steps are written again on these, `add A B f` for `a + b`:
 -- the bits are those of the machine's result by computation, and the number is the sum. `add_need A B f` is what the operation asks.
-use Rattle.std.specs.Prelude.{◌≡◌, refl, Bool, true, false, not, ◌⊎◌, ℕ, zero, suc, ◌+◌, ◌-◌, ◌*◌, ◌/◌, ◌%◌, ◌^◌, ◌≤◌, ◌<◌, T, ltb, ℤ, pos, negsuc, neg_ℤ, nat_abs, ◌+ℤ◌, ◌-ℤ◌, ◌*ℤ◌, ◌≤ℤ◌, ◌<ℤ◌}
-use Rattle.std.proofs.Common.{sym, ap, ◌∙◌, subst, inl, inr, ⊎_elim, arith, eq-zero-or-pos, div-le_self, lt→ltb, leb-false, to_z-of_z}
+use Rattle.std.specs.Prelude.{◌≡◌, refl, Bool, true, false, not, ℕ, zero, suc, ◌/◌, ◌^◌, ◌≤◌, ◌<◌, T, ℤ, pos, negsuc, neg_ℤ, nat_abs, ◌+ℤ◌, ◌-ℤ◌, ◌*ℤ◌, ◌≤ℤ◌, ◌<ℤ◌}
+use Rattle.std.proofs.Common.{sym, ap, ◌∙◌, subst, ⊎_elim, arith, eq-zero-or-pos, div-le_self, lt→ltb, leb-false, to_z-of_z}
 use Rattle.std.proofs.Math.IntN.{+ℤ_idl}
 use Rattle.std.specs.Int.Signed.{mag, lt_z, le_z, quot_z, rem_z, mag_rem, non_neg, yes_non_neg, lt_z_yes, lt_z_no, le_z_yes}
 use Rattle.std.specs.Int.{Width, w8, w16, w32, w64, w128}
 use mir.Val.{SFits, Fits, to_z, of_z, hbits}
 use Rattle.std.proofs.Math.Facts.{to_z_pos}
 use mir.ValLaws.{sfits_le}
-use Rattle.charts.specs.Integers.{up, dn, le_ud, lt_ud, ud_lt, ud_le}
+use Rattle.charts.specs.Integers.{up, dn, lt_ud}
 
 pub record Loc (w : Width) : Type 0 where
   pub bits : ℕ

@@ -1,8 +1,8 @@
 -- A reset makes a chart sound, and a reading keeps it so while fewer than 100,000 have been applied.
-use Rattle.std.specs.Prelude.{◌≡◌, refl, List, [], ◌∷◌, Bool, true, false, not, ℕ, ◌+◌, ◌*◌, ◌≤◌, ◌<◌, T, ℤ, pos, negsuc, neg_ℤ, nat_abs, ◌+ℤ◌, ◌-ℤ◌, ◌*ℤ◌, ◌≤ℤ◌, ◌<ℤ◌, if◌then◌else◌}
-use Rattle.std.proofs.Common.{ap, ◌∙◌, arith, mul-le-mul}
+use Rattle.std.specs.Prelude.{◌≡◌, refl, ℕ, ◌+◌, ◌*◌, ◌≤◌, ◌<◌, T, ℤ, pos, negsuc, neg_ℤ, nat_abs, ◌+ℤ◌, ◌-ℤ◌, ◌*ℤ◌, ◌≤ℤ◌}
+use Rattle.std.proofs.Common.{arith, mul-le-mul}
 use Rattle.std.specs.Int.Signed.{lt_z, lt_z_yes}
-use Rattle.charts.specs.Integers.{ints, up, dn, sum, diff, prod, one_zero, abs_ud, up_neg, dn_neg, lt_ud, le_ud, ud_le, abs_diff}
+use Rattle.charts.specs.Integers.{ints, sum, diff, prod, one_zero, abs_ud, up_neg, dn_neg, lt_ud, le_ud, ud_le}
 use Rattle.charts.specs.Tests.{if_all}
 use Rattle.charts.specs.Sums.{empty, added}
 use Rattle.charts.specs.Charts.{rising_term, falling_term, precision_term, reset_of, applied_of, blank}

@@ -1,5 +1,5 @@
 -- Paper 01, 'Charts (7.2-7.6)': one sum with its count, for any term.
-use Rattle.std.specs.Prelude.{ℕ, ◌+◌, ℤ, pos, nat_abs, ◌+ℤ◌, if◌then◌else◌}
+use Rattle.std.specs.Prelude.{◌+◌, ℤ, pos, nat_abs, ◌+ℤ◌, if◌then◌else◌}
 use Rattle.std.specs.Int.Signed.{lt_z}
 use Rattle.charts.specs.declared.Sum.{Sum}
 

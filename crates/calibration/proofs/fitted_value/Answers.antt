@@ -1,5 +1,4 @@
 -- `calibration::fitted_value` meets its contract.
-use borrow.Author.Rules.{rules}
 use mir.Syntax.{w32}
 use mir.Facts.{to_z-of_z}
 use Rattle.calibration.specs.PairLaws.{between_fits}

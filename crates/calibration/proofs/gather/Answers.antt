@@ -1,5 +1,4 @@
 -- `calibration::gather` meets its contract.
-use borrow.Author.Rules.{rules}
 use Rattle.calibration.proofs.LentListLaws.{gathers_past, gathers_kept}
 use Rattle.calibration.proofs.gather.Goals as goal
 

@@ -1,5 +1,4 @@
 -- `calibration::plus` meets its contract.
-use borrow.Author.Rules.{rules}
 use lib.IntN.{pos, ◌+ℤ◌}
 use mir.Syntax.{w64}
 use Rattle.charts.specs.SignedLocals.{Loc, arg, add, add_need, mul, mul_need}

@@ -1,5 +1,4 @@
 -- `calibration::value` meets its contract.
-use borrow.Author.Rules.{rules}
 use mir.Facts.{to_z-of_z}
 use Rattle.calibration.proofs.ConditionLaws.{calibrated_bound}
 use Rattle.calibration.proofs.value.Goals as goal

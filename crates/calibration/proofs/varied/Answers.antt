@@ -1,5 +1,4 @@
 -- `calibration::varied` meets its contract.
-use borrow.Author.Rules.{rules}
 use Prim.Native.Nat.{◌*◌, ◌≤◌}
 use native.Mathlib.Omega.{arith}
 use native.Mathlib.Nat.{mul-le-mul}

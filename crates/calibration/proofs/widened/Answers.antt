@@ -1,5 +1,4 @@
 -- `calibration::widened` meets its contract.
-use borrow.Author.Rules.{rules}
 use Rattle.calibration.specs.Calibration.{widened_of}
 use Rattle.calibration.proofs.widened.Goals as goal
 

@@ -1,5 +1,4 @@
 -- `calibration::with_residual` meets its contract.
-use borrow.Author.Rules.{rules}
 use native.Mathlib.Omega.{arith}
 use mir.Syntax.{w64}
 use Rattle.charts.specs.Integers.{abs_sum, abs_sfits}

@@ -1,5 +1,4 @@
 -- `calibration::z_ranged` meets its contract.
-use borrow.Author.Rules.{rules}
 use lib.IntN.{pos, neg_ℤ}
 use Rattle.calibration.specs.PairLaws.{wide_need, wide_between}
 use Rattle.calibration.proofs.z_ranged.Goals as goal

@@ -3,8 +3,6 @@ use borrow.Author.Rules.{rules}
 use mathlib.Core.Path.{sym}
 use Rattle.charts.specs.CodeLaws.{added_none, added_kept}
 use Rattle.charts.proofs.add.Goals as goal
-use Rattle.charts.proofs.add.Reads as reads
-use Rattle.charts.proofs.add.Lts as lts
 
 pub returns-then-z-takes : goal.returns-then-z-takes
 returns-then-z-takes c = let a = c.before.before.args in sym (added_none a.u a.adds a.takes c.if-z-takes.true)

@@ -1,5 +1,4 @@
 -- `charts::adjustment` meets its contract. Where the sum is over the limit it is above 0, and so is its count.
-use borrow.Author.Rules.{rules}
 use borrow.Author.Tests.{lt-ltb, le-ltb}
 use mathlib.Core.Path.{ap}
 use Prim.Native.Nat.{◌*◌, ◌≤◌}
@@ -8,9 +7,6 @@ use native.Mathlib.Nat.{mul-le-mul}
 use lib.IntN.{nat_abs}
 use Rattle.charts.specs.Charts.{drift_limit, adjustment_of}
 use Rattle.charts.proofs.adjustment.Goals as goal
-use Rattle.charts.proofs.adjustment.Reads as reads
-use Rattle.charts.proofs.adjustment.Lts as lts
-use Rattle.charts.proofs.near_unsigned.Reads as near-unsigned-reads
 use Rattle.charts.proofs.adjustment.Goals.{Start}
 
 small : (c : Start) → 501 * c.args.s * c.args.count ≤ 501 * 65536 * 100000

@@ -6,8 +6,6 @@ use mir.Val.{SFits}
 use mir.Facts.{to_z-of_z}
 use Rattle.charts.specs.Integers.{abs_diff, abs_sfits}
 use Rattle.charts.proofs.difference.Goals as goal
-use Rattle.charts.proofs.difference.Reads as reads
-use Rattle.charts.proofs.difference.Lts as lts
 use Rattle.charts.proofs.difference.Goals.{Start}
 
 small : (c : Start) → SFits w32 (c.args.reading -ℤ c.args.reference)

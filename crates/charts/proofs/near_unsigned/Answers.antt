@@ -1,5 +1,4 @@
 -- `charts::near_unsigned` meets its contract: where the quotient is raised, the divisor is at least 2, so that one more fits.
-use borrow.Author.Rules.{rules}
 use mathlib.Core.Path.{◌≡◌, sym, subst, ◌∙◌}
 use Prim.Native.Nat.{◌%◌, ◌/◌, ◌<◌}
 use native.Mathlib.Omega.{arith}

@@ -1,9 +1,9 @@
 -- `charts::raised` meets its contract.
-use mathlib.Core.Path.{◌≡◌, ◌∙◌, ap}
-use Prim.Native.Nat.{ℕ, ◌≤◌, ◌<◌, ◌^◌}
+use mathlib.Core.Path.{◌∙◌, ap}
+use Prim.Native.Nat.{◌≤◌}
 use native.Mathlib.Omega.{arith}
 use lib.Dec.{lit<}
-use lib.IntN.{ℤ, pos, nat_abs, ◌+ℤ◌}
+use lib.IntN.{pos, nat_abs, ◌+ℤ◌}
 use lib.Signed.{◌≤ℤ◌, pos-nat_abs, yes_non_neg}
 use mir.Syntax.{w32, w64}
 use mir.Facts.{sfits_widen}

@@ -2,8 +2,6 @@
 use mir.Facts.{to_z-of_z}
 use Rattle.charts.specs.Soundness.{ranged_of}
 use Rattle.charts.proofs.ranged.Goals as goal
-use Rattle.charts.proofs.ranged.Reads as reads
-use Rattle.charts.proofs.ranged.Lts as lts
 
 pub returns : goal.returns
 unfolding ranged_of

@@ -1,12 +1,9 @@
 -- `charts::within` meets its contract.
-use borrow.Author.Rules.{rules}
 use borrow.Author.Tests.{lt-leb, le-leb}
 use native.Mathlib.Omega.{arith}
 use native.Mathlib.Nat.{mul-le-mul}
 use Rattle.charts.specs.Soundness.{within_of}
 use Rattle.charts.proofs.within.Goals as goal
-use Rattle.charts.proofs.within.Reads as reads
-use Rattle.charts.proofs.within.Lts as lts
 
 pub returns-then-readings-u : goal.returns-then-readings-u
 unfolding within_of

@@ -1,13 +1,10 @@
 -- `charts::Chart::alarms` meets its contract.
-use borrow.Author.Rules.{rules}
 use mathlib.Core.Path.{refl}
 use Prim.Native.Nat.{◌*◌, ◌≤◌}
 use native.Mathlib.Omega.{arith}
 use native.Mathlib.Nat.{mul-le-mul}
 use Rattle.charts.specs.Charts.{alarms_of}
 use Rattle.charts.proofs.Chart.alarms.Goals as goal
-use Rattle.charts.proofs.Chart.alarms.Reads as reads
-use Rattle.charts.proofs.Chart.alarms.Lts as lts
 use Rattle.charts.proofs.Chart.alarms.Goals.{Start}
 
 small : (c : Start) → c.args.s * c.args.s ≤ 65536 * 65536

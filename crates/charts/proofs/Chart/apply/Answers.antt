@@ -1,6 +1,6 @@
 -- `charts::Chart::apply` meets its contract.
 use borrow.Author.Rules.{rules}
-use mathlib.Core.Path.{◌≡◌, sym, ap, subst, ◌∙◌}
+use mathlib.Core.Path.{◌≡◌, sym, ap, ◌∙◌}
 use Prim.Native.Nat.{ℕ, ◌+◌, ◌*◌, ◌≤◌}
 use native.Mathlib.Omega.{arith}
 use native.Mathlib.Nat.{mul-le-mul}
@@ -13,7 +13,6 @@ use Rattle.charts.specs.Charts.{applied_of, rising_term, falling_term, precision
 use Rattle.charts.specs.CodeLaws.{rising_code, falling_code, precision_code}
 use Rattle.charts.specs.Soundness.{Within, most_rising, most_falling}
 use Rattle.charts.specs.SoundnessLaws.{added_within, rising_most, falling_most}
-use Rattle.charts.specs.declared.Sum.{Sum}
 use Rattle.charts.proofs.Chart.apply.Goals as goal
 use Rattle.charts.proofs.Chart.apply.Lts as lts
 use Rattle.charts.proofs.Chart.apply.Tie as tie

@@ -3,8 +3,6 @@ use mathlib.Core.Path.{refl}
 use Rattle.charts.specs.Sums.{empty}
 use Rattle.charts.specs.Charts.{reset_of}
 use Rattle.charts.proofs.Chart.reset.Goals as goal
-use Rattle.charts.proofs.Chart.reset.Reads as reads
-use Rattle.charts.proofs.Chart.reset.Lts as lts
 
 pub returns : goal.returns
 unfolding reset_of empty

@@ -9,8 +9,6 @@ use Rattle.charts.specs.Soundness.{ranged_of, sound_of}
 use Rattle.charts.proofs.Chart.sound.Goals as goal
 use Rattle.charts.proofs.Chart.sound.Reads as reads
 use Rattle.charts.proofs.Chart.sound.Lts as lts
-use Rattle.charts.proofs.ranged.Reads as ranged-reads
-use Rattle.charts.proofs.within.Reads as within-reads
 use Rattle.charts.proofs.Chart.sound.Lts as lts
 use Rattle.charts.proofs.Chart.sound.Tie as tie
 use Rattle.charts.proofs.Chart.sound.Reads as reads

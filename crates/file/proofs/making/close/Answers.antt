@@ -10,7 +10,6 @@ use Rattle.records.specs.Soundness.{SettingSound}
 use Rattle.records.specs.Table.{calibration_of}
 use Rattle.file.specs.Closings.{first_rows, kept, calibration_record}
 use Rattle.file.proofs.ClosingLaws as L
-use borrow.Author.Rules.{rules}
 use Rattle.file.proofs.making.close.Goals as goal
 use Rattle.file.proofs.making.close.Lts as lts
 use Rattle.file.proofs.making.close.Tie as tie

@@ -10,7 +10,6 @@ use Rattle.records.specs.Table.{annual_of}
 use Rattle.records.proofs.StateLaws.{thirty}
 use Rattle.file.specs.Closings.{annual_record}
 use Rattle.file.proofs.ClosingLaws.{kept_old}
-use borrow.Author.Rules.{rules}
 use Rattle.file.proofs.making.close_annual.Goals as goal
 use Rattle.file.proofs.making.close_annual.Goals.{Start}
 

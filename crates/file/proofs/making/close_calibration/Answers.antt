@@ -7,7 +7,6 @@ use Rattle.records.specs.State.{facts_of}
 use Rattle.records.specs.Table.{calibration_of}
 use Rattle.file.specs.Closings.{calibration_record}
 use Rattle.file.proofs.ClosingLaws.{kept_old}
-use borrow.Author.Rules.{rules}
 use Rattle.file.proofs.making.close_calibration.Goals as goal
 use Rattle.file.proofs.making.close_calibration.Lts as lts
 use Rattle.file.proofs.making.close_calibration.Tie as tie

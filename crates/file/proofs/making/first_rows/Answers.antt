@@ -2,7 +2,6 @@
 use mathlib.Core.Path.{◌≡◌, ◌∙◌, sym, ap}
 use mathlib.Core.Bool.{not}
 use mir.Facts.{to_z-of_z}
-use borrow.Author.Rules.{rules}
 use Rattle.records.specs.State.{facts_of}
 use Rattle.file.specs.Closings.{z_fits}
 use Rattle.file.proofs.ClosingLaws.{begun_stops, time_stops, z_stops, none_stops}

@@ -21,7 +21,6 @@ use Rattle.file.specs.Closings.{closing_of, closing_refusal, made}
 use Rattle.file.specs.FitLaws.{fit_size}
 use Rattle.file.proofs.ClosingLaws as L
 use Rattle.file.specs.declared.forming.Appended.{Appended}
-use borrow.Author.Rules.{rules}
 use Rattle.file.proofs.making.make_closing.Goals as goal
 use Rattle.file.proofs.making.make_closing.Goals.{After-close-refusal, After-run_records-ran, Else-not-closes, Else-not-ready, Else-not-records_fit, Else-ran-ne0, Else-told-ne0}
 

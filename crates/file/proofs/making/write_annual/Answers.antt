@@ -1,6 +1,5 @@
 -- `making::write_annual` meets its contract.
 use Rattle.file.proofs.ClosingLaws.{annual_written}
-use borrow.Author.Rules.{rules}
 use Rattle.file.proofs.making.write_annual.Goals as goal
 
 pub returns : goal.returns

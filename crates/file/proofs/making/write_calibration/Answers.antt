@@ -5,7 +5,6 @@ use mir.Facts.{to_z-of_z}
 use Rattle.records.specs.Bytes.{bytes32, written}
 use Rattle.file.specs.Closings.{unsigned32}
 use Rattle.file.proofs.ClosingLaws.{calibration_written}
-use borrow.Author.Rules.{rules}
 use Rattle.file.proofs.making.write_calibration.Goals as goal
 
 pub returns : goal.returns

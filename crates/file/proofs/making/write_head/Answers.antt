@@ -2,7 +2,6 @@
 use mathlib.Core.Path.{◌≡◌, ◌∙◌}
 use native.Mathlib.Omega.{arith}
 use lib.ListN.{length-set}
-use borrow.Author.Rules.{rules}
 use Rattle.records.specs.Bytes.{written}
 use Rattle.file.specs.Closings.{head_of}
 use Rattle.file.proofs.ClosingLaws.{head_written}

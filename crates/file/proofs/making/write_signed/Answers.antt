@@ -2,7 +2,6 @@
 use mathlib.Core.Path.{◌∙◌, ap}
 use Prim.Native.Nat.{ℕ}
 use mir.Facts.{to_z-of_z}
-use borrow.Author.Rules.{rules}
 use Rattle.records.specs.Bytes.{bytes32, written}
 use Rattle.file.specs.Closings.{unsigned32}
 use Rattle.file.proofs.making.write_signed.Goals as goal

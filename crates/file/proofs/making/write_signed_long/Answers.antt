@@ -6,7 +6,6 @@ use mir.Facts.{to_z-of_z}
 use Rattle.records.specs.Bytes.{bytes32, written}
 use Rattle.file.specs.Closings.{unsigned64, bytes64}
 use Rattle.file.proofs.ClosingLaws.{long_written}
-use borrow.Author.Rules.{rules}
 use Rattle.file.proofs.making.write_signed_long.Goals as goal
 
 pub returns : goal.returns

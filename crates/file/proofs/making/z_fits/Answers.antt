@@ -4,7 +4,6 @@ use lib.IntN.{ℤ, pos}
 use lib.Dec.{eqb}
 use mir.Facts.{to_z-of_z}
 use borrow.Author.Tests.{eq-eqb, ne_eqb}
-use borrow.Author.Rules.{rules}
 use Rattle.charts.specs.Tests.{if_yes, if_no}
 use Rattle.calibration.specs.Pairs.{z_ranged_of}
 use Rattle.records.specs.Table.{sameℤ}

@@ -1,5 +1,4 @@
 -- `reporting::report` meets its contract: the equation on the state, and statement 3.
-use borrow.Author.Rules.{rules}
 use mathlib.Core.Path.{◌≡◌, sym, subst}
 use mathlib.Core.Bool.{◌&&◌}
 use Rattle.records.specs.Answers.{zero_alarms, span_alarms, usable_of}

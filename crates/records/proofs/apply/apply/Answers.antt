@@ -12,7 +12,6 @@ use Rattle.records.specs.StateParts.{with_setting, with_reading, with_reset, wit
 use Rattle.records.proofs.SoundnessLaws.{setting_known}
 use Rattle.records.specs.declared.state.State.{State}
 use Rattle.records.proofs.ApplyLaws.{no_kind, judged_total, judged_outside, applied_setting, applied_reading, applied_reset, applied_pair, applied_calibration, applied_annual, applied_value, applied_drop}
-use borrow.Author.Rules.{rules}
 use Rattle.records.proofs.apply.apply.Goals as goal
 use Rattle.records.proofs.apply.apply.Lts as lts
 use Rattle.records.proofs.apply.apply.Tie as tie

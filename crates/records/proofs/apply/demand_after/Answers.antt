@@ -1,7 +1,6 @@
 -- `apply::demand_after` meets its contract.
 use mathlib.Core.Path.{sym, ◌∙◌}
 use Rattle.charts.specs.Tests.{if_yes, if_no}
-use borrow.Author.Rules.{rules}
 use Rattle.records.proofs.apply.demand_after.Goals as goal
 
 pub returns-then-judges : goal.returns-then-judges

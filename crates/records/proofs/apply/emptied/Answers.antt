@@ -1,7 +1,6 @@
 -- `apply::emptied` meets its contract.
 use Rattle.records.specs.State.{no_pairs}
 use Rattle.records.specs.StateParts.{emptied}
-use borrow.Author.Rules.{rules}
 use Rattle.records.proofs.apply.emptied.Goals as goal
 
 pub returns : goal.returns

@@ -1,7 +1,6 @@
 -- `apply::exceeds` meets its contract.
 use native.Mathlib.Omega.{arith}
 use native.Mathlib.Nat.{mul-le-mul}
-use borrow.Author.Rules.{rules}
 use Rattle.records.proofs.apply.exceeds.Goals as goal
 
 pub overflow_mul-result : goal.overflow_mul-result

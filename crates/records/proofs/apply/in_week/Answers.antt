@@ -1,7 +1,6 @@
 -- `apply::in_week` meets its contract.
 use Rattle.records.specs.Record.{kind, minute}
 use Rattle.records.specs.InPlace.{in_week_of}
-use borrow.Author.Rules.{rules}
 use Rattle.records.proofs.apply.in_week.Goals as goal
 
 pub returns : goal.returns

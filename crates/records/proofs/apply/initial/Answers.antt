@@ -1,7 +1,6 @@
 -- `apply::initial` meets its contract.
 use Rattle.records.specs.Kinds.{no_setting}
 use Rattle.records.specs.State.{no_pairs, initial_of}
-use borrow.Author.Rules.{rules}
 use Rattle.records.proofs.apply.initial.Goals as goal
 
 pub returns : goal.returns

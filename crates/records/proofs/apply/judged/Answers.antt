@@ -1,7 +1,6 @@
 -- `apply::judged` meets its contract.
 use borrow.Author.Tests.{lt-ltb, le-ltb}
 use Rattle.records.specs.StateParts.{judged_of}
-use borrow.Author.Rules.{rules}
 use Rattle.records.proofs.apply.judged.Goals as goal
 
 pub returns-then-m-st : goal.returns-then-m-st

@@ -1,6 +1,5 @@
 -- `apply::judges` meets its contract.
 use Rattle.records.specs.State.{judges}
-use borrow.Author.Rules.{rules}
 use Rattle.records.proofs.apply.judges.Goals as goal
 
 pub returns : goal.returns

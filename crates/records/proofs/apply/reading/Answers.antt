@@ -12,7 +12,6 @@ use Rattle.records.specs.Table.{reading_refusal}
 use Rattle.records.proofs.TableLaws.{Accepted, accepted, reading_passed, zero_open, span_open}
 use Rattle.records.specs.State.{facts_of}
 use Rattle.records.proofs.InPlaceLaws.{zero_changes, span_changes}
-use borrow.Author.Rules.{rules}
 use Rattle.records.proofs.apply.reading.Goals as goal
 use Rattle.records.proofs.apply.reading.Lts as lts
 use Rattle.records.proofs.apply.reading.Tie as tie

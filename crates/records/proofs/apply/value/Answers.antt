@@ -8,7 +8,6 @@ use Rattle.records.proofs.TableLaws.{Accepted, accepted}
 use Rattle.records.specs.State.{facts_of}
 use Rattle.records.proofs.SoundnessLaws.{setting_known}
 use Rattle.records.proofs.InPlaceLaws.{value_changes, minute_changes}
-use borrow.Author.Rules.{rules}
 use Rattle.records.proofs.apply.value.Goals as goal
 use Rattle.records.proofs.apply.value.Lts as lts
 use Rattle.records.proofs.apply.value.Tie as tie

@@ -1,7 +1,6 @@
 -- `apply::weeks_over` meets its contract.
 use mathlib.Core.Path.{sym, ◌∙◌}
 use Rattle.charts.specs.Tests.{if_yes, if_no}
-use borrow.Author.Rules.{rules}
 use Rattle.records.proofs.apply.weeks_over.Goals as goal
 
 pub returns-then-exceeds : goal.returns-then-exceeds

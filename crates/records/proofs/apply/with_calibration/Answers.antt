@@ -2,7 +2,6 @@
 use borrow.Author.Tests.{eq-eqb, ne_eqb}
 use Rattle.records.specs.Record.{mark, minute}
 use Rattle.records.specs.StateParts.{with_calibration}
-use borrow.Author.Rules.{rules}
 use Rattle.records.proofs.apply.with_calibration.Goals as goal
 
 pub returns-then-r-eq1 : goal.returns-then-r-eq1

@@ -1,6 +1,5 @@
 -- `apply::with_failure` meets its contract.
 use Rattle.records.specs.StateParts.{with_demand, with_failure}
-use borrow.Author.Rules.{rules}
 use Rattle.records.proofs.apply.with_failure.Goals as goal
 
 pub returns : goal.returns

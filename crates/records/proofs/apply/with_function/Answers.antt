@@ -1,6 +1,5 @@
 -- `apply::with_function` meets its contract.
 use Rattle.records.specs.StateParts.{with_function}
-use borrow.Author.Rules.{rules}
 use Rattle.records.proofs.apply.with_function.Goals as goal
 
 pub returns : goal.returns

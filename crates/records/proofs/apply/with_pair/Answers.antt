@@ -1,7 +1,6 @@
 -- `apply::with_pair` meets its contract.
 use mathlib.Core.Path.{refl}
 use Rattle.records.specs.StateParts.{with_pair}
-use borrow.Author.Rules.{rules}
 use Rattle.records.proofs.apply.with_pair.Goals as goal
 
 pub returns : goal.returns

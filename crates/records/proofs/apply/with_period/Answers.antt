@@ -1,6 +1,5 @@
 -- `apply::with_period` meets its contract.
 use Rattle.records.specs.StateParts.{with_period}
-use borrow.Author.Rules.{rules}
 use Rattle.records.proofs.apply.with_period.Goals as goal
 
 pub returns : goal.returns

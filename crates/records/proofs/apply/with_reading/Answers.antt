@@ -9,7 +9,6 @@ use Rattle.records.specs.RecordLaws.{reading_fields}
 use Rattle.records.proofs.TableLaws.{zero_open, span_open}
 use Rattle.records.specs.State.{facts_of}
 use Rattle.records.specs.StateParts.{with_zero, with_span, with_reading}
-use borrow.Author.Rules.{rules}
 use Rattle.records.proofs.apply.with_reading.Goals as goal
 use Rattle.records.proofs.apply.with_reading.Lts as lts
 use Rattle.records.proofs.apply.with_reading.Tie as tie

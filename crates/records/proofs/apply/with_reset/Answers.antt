@@ -2,7 +2,6 @@
 use borrow.Author.Tests.{eq-eqb, ne_eqb}
 use Rattle.records.specs.Record.{mark}
 use Rattle.records.specs.StateParts.{with_zero, with_span, with_reset}
-use borrow.Author.Rules.{rules}
 use Rattle.records.proofs.apply.with_reset.Goals as goal
 
 pub returns-then-r-eq0 : goal.returns-then-r-eq0

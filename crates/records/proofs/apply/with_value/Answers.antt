@@ -2,7 +2,6 @@
 use borrow.Author.Tests.{ne_eqb}
 use Rattle.charts.specs.Tests.{if_yes, if_no}
 use Rattle.records.specs.StateParts.{with_tally, with_value}
-use borrow.Author.Rules.{rules}
 use Rattle.records.proofs.apply.with_value.Goals as goal
 
 pub returns-then-mark-ne0 : goal.returns-then-mark-ne0

@@ -1,7 +1,6 @@
 -- `bytes::read16` meets its contract.
 use native.Mathlib.Omega.{arith}
 use Rattle.records.specs.Bytes.{le16}
-use borrow.Author.Rules.{rules}
 use Rattle.records.proofs.bytes.read16.Goals as goal
 
 pub returns : goal.returns

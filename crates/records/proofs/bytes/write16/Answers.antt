@@ -4,7 +4,6 @@ use mathlib.Core.List.{[], ◌∷◌}
 use Prim.Native.Nat.{ℕ, ◌/◌, ◌%◌}
 use native.Mathlib.Omega.{arith}
 use lib.ListN.{length-set}
-use borrow.Author.Rules.{rules}
 use Rattle.records.specs.Bytes.{bytes16, written}
 use Rattle.records.specs.BytesLaws.{stored_two}
 use Rattle.records.proofs.bytes.write16.Goals as goal

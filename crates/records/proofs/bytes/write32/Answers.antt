@@ -4,7 +4,6 @@ use mathlib.Core.List.{List}
 use Prim.Native.Nat.{ℕ, ◌+◌, ◌/◌}
 use Rattle.records.specs.Bytes.{written, bytes16}
 use Rattle.records.specs.BytesLaws.{written_halves}
-use borrow.Author.Rules.{rules}
 use Rattle.records.proofs.bytes.write32.Goals as goal
 
 pub returns : goal.returns

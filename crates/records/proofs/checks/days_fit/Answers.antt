@@ -8,7 +8,6 @@ use lib.Dec.{leb}
 use lib.ListN.{length, get_or, take}
 use mir.Syntax.{w32}
 use mir.Val.{Fits}
-use borrow.Author.Rules.{rules}
 use Rattle.charts.specs.Tests.{answers_le, answers_as, same_answer}
 use Rattle.records.specs.Table.{different, end_day, days_fit}
 use Rattle.records.specs.ListLaws.{first_of, last_of_lem, sound_at}

@@ -1,6 +1,5 @@
 -- `checks::follows` meets its contract.
 use mathlib.Core.Path.{refl}
-use borrow.Author.Rules.{rules}
 use Rattle.records.specs.Table.{follows_one}
 use Rattle.records.proofs.checks.follows.Goals as goal
 

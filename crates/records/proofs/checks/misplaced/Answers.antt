@@ -1,6 +1,5 @@
 -- `checks::misplaced` meets its contract.
 use mathlib.Core.Path.{sym}
-use borrow.Author.Rules.{rules}
 use Rattle.charts.specs.Tests.{if_yes, if_no}
 use Rattle.records.specs.Record.{kind}
 use Rattle.records.specs.Kinds.{sets}

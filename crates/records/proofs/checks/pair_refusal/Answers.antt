@@ -9,7 +9,6 @@ use lib.Seq.{length-take-le}
 use mir.Syntax.{w32}
 use mir.Val.{to_z, of_z}
 use borrow.Author.Tests.{le-leb, lt-leb}
-use borrow.Author.Rules.{rules}
 use Rattle.std.specs.Prelude.{if◌then◌else◌}
 use Rattle.charts.specs.SignedLocals.{arg, lit, le_flag}
 use Rattle.records.specs.Record.{field, coverage_of}

@@ -1,6 +1,5 @@
 -- `checks::reading_refusal` meets its contract.
 use borrow.Author.Tests.{eq-eqb, ne_eqb}
-use borrow.Author.Rules.{rules}
 use Rattle.records.specs.Record.{mark}
 use Rattle.records.specs.Table.{reading_refusal}
 use Rattle.records.specs.State.{facts_of}

@@ -7,7 +7,6 @@ use native.Mathlib.Omega.{arith}
 use lib.ListN.{take}
 use lib.Dec.{leb}
 use borrow.Author.Tests.{le-leb, lt-leb}
-use borrow.Author.Rules.{rules}
 use Rattle.records.specs.Record.{minute}
 use Rattle.records.specs.Table.{times_fit, follows, last_of}
 use Rattle.records.specs.State.{facts_of}

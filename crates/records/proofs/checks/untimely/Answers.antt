@@ -1,5 +1,4 @@
 -- `checks::untimely` meets its contract.
-use borrow.Author.Rules.{rules}
 use Rattle.records.specs.Record.{minute}
 use Rattle.records.specs.Table.{untimely}
 use Rattle.records.specs.State.{facts_of}

@@ -8,7 +8,6 @@ use lib.ListN.{length, length-take}
 use mir.Syntax.{w32}
 use mir.Val.{to_z, of_z}
 use borrow.Author.Tests.{eq-eqb, ne_eqb}
-use borrow.Author.Rules.{rules}
 use Rattle.std.specs.Prelude.{if◌then◌else◌}
 use Rattle.calibration.specs.Pairs.{ZRanged}
 use Rattle.calibration.specs.declared.Fitted.{Fitted}

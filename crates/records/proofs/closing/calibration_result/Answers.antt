@@ -9,7 +9,6 @@ use lib.Seq.{length-take-le}
 use mir.Syntax.{w32}
 use mir.Val.{to_z, of_z}
 use mir.Facts.{to_z-of_z}
-use borrow.Author.Rules.{rules}
 use Rattle.std.specs.Prelude.{if◌then◌else◌}
 use Rattle.calibration.specs.Pairs.{AllRanged}
 use Rattle.calibration.specs.Calibration.{count_fits, fit_of, refused_fit}

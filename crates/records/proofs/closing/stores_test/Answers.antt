@@ -4,7 +4,6 @@ use mathlib.Core.Bool.{Bool, ◌&&◌}
 use Prim.Native.Nat.{ℕ}
 use lib.Dec.{eqb}
 use lib.IntN.{pos}
-use borrow.Author.Rules.{rules}
 use Rattle.calibration.specs.declared.Tested.{Tested}
 use Rattle.records.specs.Record.{Record, mark, field}
 use Rattle.records.specs.Table.{sameℤ, stores_test, test_mark}

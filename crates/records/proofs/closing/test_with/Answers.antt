@@ -5,7 +5,6 @@ use lib.ListN.{take}
 use mir.Syntax.{w32, w64}
 use mir.Val.{to_z, of_z}
 use mir.Facts.{to_z-of_z}
-use borrow.Author.Rules.{rules}
 use Rattle.calibration.specs.Pairs.{AllRanged}
 use Rattle.calibration.specs.Annual.{test_of}
 use Rattle.calibration.specs.PairLaws.{between_fits}

@@ -1,5 +1,4 @@
 -- `fields::conditions_at` meets its contract.
-use borrow.Author.Rules.{rules}
 use mir.Syntax.{w32}
 use Rattle.records.specs.Record.{conditions_at}
 use Rattle.records.proofs.SignedLaws.{given}

@@ -1,5 +1,4 @@
 -- `fields::field_at` meets its contract.
-use borrow.Author.Rules.{rules}
 use mathlib.Core.Path.{ap, ◌∙◌}
 use mir.Syntax.{w32}
 use Rattle.records.specs.Record.{field, signed32}

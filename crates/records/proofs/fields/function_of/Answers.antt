@@ -1,5 +1,4 @@
 -- `fields::function_of` meets its contract.
-use borrow.Author.Rules.{rules}
 use mir.Syntax.{w32, w64}
 use Rattle.records.specs.Record.{function_of, minute}
 use Rattle.records.proofs.SignedLaws.{given}

@@ -1,5 +1,4 @@
 -- `fields::long_field_at` meets its contract.
-use borrow.Author.Rules.{rules}
 use mathlib.Core.Path.{◌∙◌}
 use mir.Syntax.{w64}
 use Rattle.records.specs.Record.{long_field}

@@ -1,5 +1,4 @@
 -- `fields::pair_of` meets its contract.
-use borrow.Author.Rules.{rules}
 use mir.Syntax.{w32}
 use Rattle.records.specs.Record.{pair_of}
 use Rattle.records.proofs.SignedLaws.{given}

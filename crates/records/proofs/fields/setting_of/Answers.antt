@@ -1,5 +1,4 @@
 -- `fields::setting_of` meets its contract.
-use borrow.Author.Rules.{rules}
 use mathlib.Core.Path.{◌≡◌, ap}
 use lib.Dec.{lit<}
 use lib.IntN.{nat_abs}

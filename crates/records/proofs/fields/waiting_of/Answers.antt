@@ -1,5 +1,4 @@
 -- `fields::waiting_of` meets its contract.
-use borrow.Author.Rules.{rules}
 use native.Mathlib.Omega.{arith}
 use Rattle.records.specs.Record.{waiting_of, minute}
 use Rattle.records.proofs.fields.waiting_of.Goals as goal

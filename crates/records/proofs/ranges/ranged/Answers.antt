@@ -1,5 +1,4 @@
 -- `ranges::ranged` meets its contract. An arm for each kind.
-use borrow.Author.Rules.{rules}
 use mathlib.Core.Path.{ap, ◌∙◌}
 use borrow.Author.Tests.{ne_eqb}
 use mir.Syntax.{w32}

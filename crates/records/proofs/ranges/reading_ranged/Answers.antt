@@ -1,5 +1,4 @@
 -- `ranges::reading_ranged` meets its contract.
-use borrow.Author.Rules.{rules}
 use lib.IntN.{pos, neg_ℤ}
 use Rattle.records.specs.Record.{reading_ranged}
 use Rattle.records.proofs.SignedLaws.{given_wide, given_between}

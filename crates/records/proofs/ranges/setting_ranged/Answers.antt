@@ -1,5 +1,4 @@
 -- `ranges::setting_ranged` meets its contract.
-use borrow.Author.Rules.{rules}
 use lib.IntN.{pos}
 use Rattle.records.specs.Record.{setting_ranged}
 use Rattle.records.proofs.SignedLaws.{given_wide, given_between}

@@ -1,5 +1,4 @@
 -- `ranges::value_ranged` meets its contract.
-use borrow.Author.Rules.{rules}
 use lib.IntN.{pos}
 use Rattle.records.specs.Record.{value_ranged, signal_of, value_conditions}
 use Rattle.records.proofs.SignedLaws.{given_wide, given_between}

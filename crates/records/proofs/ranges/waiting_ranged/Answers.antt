@@ -1,5 +1,4 @@
 -- `ranges::waiting_ranged` meets its contract.
-use borrow.Author.Rules.{rules}
 use lib.IntN.{pos}
 use Rattle.records.specs.Record.{waiting_ranged}
 use Rattle.records.proofs.SignedLaws.{given_wide, given_between}

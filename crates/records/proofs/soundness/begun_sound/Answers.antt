@@ -1,7 +1,6 @@
 -- `soundness::begun_sound` meets its contract.
 use mathlib.Core.Path.{sym, ap, ◌∙◌}
 use mathlib.Core.Bool.{Bool}
-use borrow.Author.Rules.{rules}
 use Rattle.records.specs.Soundness.{begun_sound_of}
 use Rattle.records.proofs.soundness.begun_sound.Goals as goal
 

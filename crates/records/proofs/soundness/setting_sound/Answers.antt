@@ -1,5 +1,4 @@
 -- `soundness::setting_sound` meets its contract.
-use borrow.Author.Rules.{rules}
 use Rattle.records.specs.Soundness.{setting_sound_of}
 use Rattle.records.proofs.soundness.setting_sound.Goals as goal
 

@@ -1,6 +1,5 @@
 -- `soundness::sound` meets its contract.
 use native.Mathlib.Omega.{arith}
-use borrow.Author.Rules.{rules}
 use Rattle.charts.specs.Tests.{same_answer}
 use Rattle.records.specs.Soundness.{sound_of, sound_answers}
 use Rattle.records.proofs.soundness.sound.Goals as goal

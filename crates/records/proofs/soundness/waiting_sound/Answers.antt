@@ -1,5 +1,4 @@
 -- `soundness::waiting_sound` meets its contract.
-use borrow.Author.Rules.{rules}
 use Rattle.records.specs.Soundness.{waiting_sound_of}
 use Rattle.records.proofs.soundness.waiting_sound.Goals as goal
 

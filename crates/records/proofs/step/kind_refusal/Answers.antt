@@ -1,5 +1,4 @@
 -- `step::kind_refusal` meets its contract: an arm for each kind that has rows of its own.
-use borrow.Author.Rules.{rules}
 use borrow.Author.Tests.{ne_eqb}
 use mathlib.Core.Path.{◌≡◌, refl, sym, ap, subst, ◌∙◌}
 use mathlib.Core.Bool.{Bool, false, not}

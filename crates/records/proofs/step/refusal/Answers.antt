@@ -1,5 +1,4 @@
 -- `step::refusal` meets its contract: the tests in the table's order.
-use borrow.Author.Rules.{rules}
 use mathlib.Core.Path.{◌≡◌, refl, sym, ◌∙◌}
 use mathlib.Core.Bool.{Bool, true, false, not}
 use Rattle.std.specs.Prelude.{if◌then◌else◌}
