@@ -88,7 +88,7 @@ unfoldable pub rise_of : Bool → Sums → ℤ
 rise_of true u = u.y
 rise_of false u = pos u.n *ℤ u.xy -ℤ u.x *ℤ u.y
 
--- Σx - N-as-Z, or NΣx² - (Σx)²
+-- Σx - N·Z, or NΣx² - (Σx)²
 unfoldable pub divisor_of : Bool → Sums → ℤ → ℤ
 divisor_of true u z = u.x -ℤ pos u.n *ℤ z
 divisor_of false u z = pos u.n *ℤ u.xx -ℤ u.x *ℤ u.x

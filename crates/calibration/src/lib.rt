@@ -491,7 +491,7 @@ fn t_factor(n: u32) -> u32
     }
 }
 
-// Whether typeof.scale.Q is at most m·σ²·k². The left side can pass 64 bits, so the right one is divided.
+// Whether scale·Q is at most m·σ²·k². The left side can pass 64 bits, so the right one is divided.
 fn varied(scale: u64, m: u32, sigma: u32, k: u32, q: u64) -> bool
     requires { (0 < scale) × (m ≤ 870) × (sigma ≤ 10000) × (k ≤ 10000) }
     ensures { result ≡ leb (scale * q) (m * (sigma * sigma) * (k * k)) }

@@ -599,7 +599,7 @@ fn branches(rt: &impl Print, e: u8) -> io::Result<()> {
     )
 }
 
-// The divisor of B, which the name tells: Σx - N.Z, then NΣx² - (Σx)².
+// The divisor of B, which the name tells: Σx - N·Z, then NΣx² - (Σx)².
 fn divisors(rt: &impl Print, e: u8) -> io::Result<()> {
     let s = neutral(400000, 1, 1000);
     fit(rt, e, b"ratio-over-0", 15, s, &[1000], &[1])?;

@@ -103,7 +103,7 @@ ud_lt {a = pos a} {b = negsuc b} h = absurd (omega arith)
 ud_lt {a = negsuc a} {b = pos b} h = record { lt = tt }
 ud_lt {a = negsuc a} {b = negsuc b} h = record { lt = lt→ltb b a (omega arith) }
 
--- ---- ring laws that `lib.IntN` lacks
+-- ---- ring laws that the library lacks
 pub *ℤ-assoc : (a b c : ℤ) → (a *ℤ b) *ℤ c ≡ a *ℤ (b *ℤ c)
 *ℤ-assoc a b c = ud_eq (rw (up_prod (a *ℤ b) c, dn_prod (a *ℤ b) c, up_prod a (b *ℤ c), dn_prod a (b *ℤ c), up_prod a b, dn_prod a b, up_prod b c, dn_prod b c) (omega arith))
 

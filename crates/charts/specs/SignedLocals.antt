@@ -125,7 +125,7 @@ nle (pos a) (negsuc b) e = record { lt = tt }
 nle (negsuc a) (pos b) e = absurd (subst T e tt)
 nle (negsuc a) (negsuc b) e = record { lt = lt→ltb a b (leb-false b a e) }
 
--- ---- a signed test in the code, as a fact: `lt_true A B c.if1.taken`
+-- ---- a signed test in the code, as a fact: `lt_true A B c.if-z-lt0.true`
 module _ {w : Width} (A B : Loc w) where
   pub lt_true : lt_z (to_z w A.bits) (to_z w B.bits) ≡ true → A.num <ℤ B.num
   lt_true e = lt_z_yes (subst T (sym (sym (lt_flag A B) ∙ e)) tt)
