@@ -1,0 +1,37 @@
+-- The numbers of the table 'Where input is stopped', and of row 26. 7 is no row of the table: it refuses a state whose numbers are so large that the
+-- arithmetic would not fit (docs/DECISIONS.md).
+use Rattle.std.specs.Prelude.{ℕ, Result, Ok, Err}
+use Rattle.refusals.specs.declared.Refusal.{Refusal}
+use Rattle.refusals.specs.declared.Refusal.TheVariants.{Length, Records, Check, Header, Analyser, Sequence, Edition, State, Layout, Place, Minute, Range, Unstarted, Full, Times, Coverage, Waiting, Function, Count, Days, Divisor, Slope, Beyond, Stored}
+
+-- run, target or closing of another length than it has to be; bytes that are not so many records, or a closing of no kind that closes
+abbrev pub number_of : Refusal → ℕ
+number_of Length = 1
+number_of Check = 2
+number_of Header = 3
+number_of Analyser = 4
+number_of Sequence = 5
+number_of Records = 6
+number_of State = 7
+number_of Layout = 10
+number_of Place = 11
+number_of Minute = 12
+number_of Range = 13
+number_of Unstarted = 14
+number_of Full = 15
+number_of Times = 16
+number_of Coverage = 17
+number_of Waiting = 18
+number_of Function = 19
+number_of Count = 20
+number_of Days = 21
+number_of Divisor = 22
+number_of Slope = 23
+number_of Beyond = 24
+number_of Stored = 25
+number_of Edition = 26
+
+-- the number of an outcome: that of the row that refused, 0 where none did
+abbrev pub outcome_of : {A : Type 0} → Result A Refusal → ℕ
+outcome_of (Ok x) = 0
+outcome_of (Err e) = number_of e
