@@ -1,5 +1,5 @@
 -- What the table says of a record that it does not refuse.
-use Rattle.std.specs.Prelude.{◌≡◌, refl, Bool, true, false, not, ◌&&◌, List, map, ℕ, ◌-◌, ◌*◌, ◌≤◌, ◌<◌, T, leb, ltb, eqb, ℤ, pos, length, if◌then◌else◌}
+use Rattle.std.specs.Prelude.{◌≡◌, refl, Bool, true, false, not, ◌&&◌, List, map, ℕ, ◌-◌, ◌*◌, ◌≤◌, ◌<◌, T, leb, ltb, eqb, ℤ, pos, length, if◌then◌else◌, None, Some}
 use Rattle.std.proofs.Common.{sym, ap, subst, ◌∙◌, arith, leb-false, eqb-true, ne_eqb}
 use Rattle.std.proofs.lemmas.Bool.{not-false, eqb-false}
 use Rattle.std.proofs.lemmas.List.{length-map}
@@ -13,10 +13,8 @@ use Rattle.calibration.specs.declared.Line.{Line}
 use Rattle.calibration.specs.declared.Pair.{Pair}
 use Rattle.calibration.specs.declared.Requirements.{Requirements}
 use Rattle.records.specs.Record.{Record, kind, mark, minute, formed_of, ranged_of, field, long_field, length_of, coverage_of, z_of, function_of}
-use Rattle.records.specs.Kinds.{response_of, line_of}
+use Rattle.records.specs.Kinds.{response_of, line_of, Calibration}
 use Rattle.records.specs.Table.{Facts, misplaced, untimely, chart_refusal, reading_refusal, last_of, follows, times_fit, pair_refusal, days_fit, pair_of_waiting, calibration_of, annual_by, annual_of, sameℤ, pass_mark, stores_fit, stores_test, calibration_refusal, annual_refusal, in_force, value_refusal, kind_refusal, refusal_in}
-use Rattle.records.specs.declared.state.Calibration.{Calibration}
-use Rattle.records.specs.declared.state.Calibration.TheVariants.{Absent, InForce}
 
 -- ---- a row that was passed
 
@@ -230,5 +228,5 @@ annual_passes f r e =
     record { in_force = by_function f.calibration o.0; tests = o.0; stores = not-false (stores_test (annual_of f) (length f.pending) r) s.0 }
   where
     by_function : (k : Calibration) → (annual_by k f).refusal ≡ 0 → in_force k ≡ true
-    by_function Absent e = absurd (omega arith)
-    by_function (InForce l) e = refl
+    by_function None e = absurd (omega arith)
+    by_function (Some l) e = refl

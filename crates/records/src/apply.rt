@@ -9,9 +9,9 @@ ghost use Rattle.records.specs.State.{applied_to, facts_of, initial_of, judges a
 ghost use Rattle.records.specs.InPlace.{InWeek, in_week_of};
 ghost use Rattle.records.specs.StateParts.{emptied as StateParts·emptied, judged_of, with_annual, with_calibration, with_failure, with_function, with_pair, with_period, with_reading, with_reset, with_value};
 
-use crate::state::{Calibration, Demand, Function, Setting, State, Waiting};
+use crate::state::{Function, Setting, State, Waiting};
 use crate::{bytes, fields};
-use calibration::{Actual, Conditions, Line, Pair, Requirements};
+use calibration::{Actual, Conditions, Pair, Requirements};
 
 fn no_pair() -> Waiting
     ensures { result ≡ no_pair }
@@ -56,11 +56,11 @@ pub fn initial(analyser: u32) -> State
         span: charts::unstarted(),
         pending: 0,
         pairs: [w; 30],
-        calibration: Calibration::Absent,
+        calibration: None,
         total: 0,
         outside: 0,
         over: 0,
-        demand: Demand::Quiet,
+        demand: None,
         edition: 0,
     }
 }
@@ -82,16 +82,6 @@ fn judges(st: State) -> bool
     exceeds(40, st.outside, st.total) | (exceeds(5, st.outside, st.total) & (st.over == 5))
 }
 
-// The first call stays the first.
-fn raised(d: Demand, m: u32) -> Demand
-    ensures { result ≡ raised_of d m }
-{
-    match d {
-        Demand::Quiet => Demand::Since(m),
-        Demand::Since(first) => Demand::Since(first),
-    }
-}
-
 // The count of weeks over 5 percent, with the week that ends.
 fn weeks_over(over: u32, outside: u32, total: u32) -> u32
     requires { over < 4294967295 }
@@ -103,14 +93,14 @@ fn weeks_over(over: u32, outside: u32, total: u32) -> u32
     over
 }
 
-fn demand_after(st: State, m: u32) -> Demand
+// The first call stays the first.
+fn demand_after(st: State, m: u32) -> Option<u32>
     ensures { result ≡ (if State·judges st then raised_of st.demand m else st.demand) }
 {
-    let d = st.demand;
     if judges(st) {
-        return raised(d, m);
+        return st.demand.or(Some(m));
     }
-    d
+    st.demand
 }
 
 // A record of minute m is at hand: the week before it is judged where m is of a later one.
@@ -165,10 +155,8 @@ fn emptied(st: State) -> State
 fn with_failure(st: State, m: u32) -> State
     ensures { result ≡ with_failure st m }
 {
-    let first = st.demand;
-    let d = raised(first, m);
     State {
-        demand: d,
+        demand: st.demand.or(Some(m)),
         ..emptied(st)
     }
 }
@@ -177,11 +165,11 @@ fn with_function(st: State, f: Function) -> State
     ensures { result ≡ with_function (StateParts·emptied st) f }
 {
     State {
-        calibration: Calibration::InForce(f),
+        calibration: Some(f),
         total: 0,
         outside: 0,
         over: 0,
-        demand: Demand::Quiet,
+        demand: None,
         ..emptied(st)
     }
 }
@@ -198,20 +186,17 @@ fn with_period(st: State) -> State
 }
 
 // Whether a value is outside, with the function in force, by the edition of its block.
-fn outside(edition: u8, k: Calibration, s: Setting, r: &[u8]) -> bool
+fn outside(edition: u8, k: Option<Function>, s: Setting, r: &[u8]) -> bool
     requires { CalibrationSound k × SettingSound s × (length r.now ≡ 40) × (value_ranged r.now ≡ true) }
     ensures { result ≡ outside_by edition k s r.now }
 {
     match k {
-        Calibration::Absent => false,
-        Calibration::InForce(f) => {
+        None => false,
+        Some(f) => {
             let c = calibration::value(
                 edition,
                 s.requirements.oxygen,
-                Line {
-                    slope: f.slope,
-                    intercept: f.intercept,
-                },
+                f.line(),
                 fields::conditions_at(r, 12),
                 fields::field_at(r, 8),
             );

@@ -6,7 +6,7 @@ ghost use Rattle.records.specs.Soundness.{AllSound, SettingSound, Sound};
 ghost use Rattle.records.specs.Table.{among as Table·among, chart_refusal, days_fit, different, end_day, follows_one, last_of, misplaced as Table·misplaced, pair_of_waiting, pair_refusal, reading_refusal, times_fit, untimely as Table·untimely, value_refusal};
 ghost use Rattle.records.specs.State.{facts_of};
 
-use crate::state::{Calibration, Setting, State, Waiting};
+use crate::state::{Setting, State, Waiting};
 use crate::{bytes, fields};
 use calibration::{Actual, Conditions, Pair};
 
@@ -181,7 +181,7 @@ pub fn value_refusal(st: State) -> u32
 {
     let k = st.calibration;
     match k {
-        Calibration::Absent => 19,
-        Calibration::InForce(_) => 0,
+        None => 19,
+        Some(_) => 0,
     }
 }

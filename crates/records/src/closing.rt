@@ -9,7 +9,7 @@ ghost use Rattle.records.specs.Kinds.{line_of};
 ghost use Rattle.records.specs.Table.{annual_of, annual_refusal, calibration_of, calibration_refusal, pair_of_waiting, pass_mark, sameℤ, stores_fit, stores_test, test_mark};
 ghost use Rattle.records.specs.State.{facts_of};
 
-use crate::state::{Calibration, Function, State};
+use crate::state::{Function, State};
 use crate::{checks, fields};
 use calibration::{Fitted, Line, Standard, Tested};
 
@@ -52,16 +52,7 @@ fn test_with(st: State, f: Function) -> Tested
     let n = st.pending;
     let waiting = st.pairs;
     let q = st.setting.requirements;
-    calibration::annual_test(
-        st.edition,
-        checks::figures(waiting),
-        n,
-        q,
-        Line {
-            slope: f.slope,
-            intercept: f.intercept,
-        },
-    )
+    calibration::annual_test(st.edition, checks::figures(waiting), n, q, f.line())
 }
 
 // An annual closing over the pairs that wait, with the function in force.
@@ -71,12 +62,12 @@ pub fn annual_result(st: State) -> Tested
 {
     let k = st.calibration;
     match k {
-        Calibration::Absent => Tested {
+        None => Tested {
             refusal: 19,
             variability: false,
             function: false,
         },
-        Calibration::InForce(f) => test_with(st, f),
+        Some(f) => test_with(st, f),
     }
 }
 

@@ -2,8 +2,7 @@
 ghost use Rattle.std.specs.Prelude.{◌≡◌, ◌≤◌, length, take};
 ghost use Rattle.records.specs.Soundness.{all_sound_of, begun_sound_of, calibration_sound_of, setting_sound_of, sound_of, waiting_sound_of};
 
-use crate::state::{Calibration, Setting, State, Waiting};
-use calibration::Line;
+use crate::state::{Function, Setting, State, Waiting};
 
 fn setting_sound(s: Setting) -> bool
     ensures { result ≡ setting_sound_of s }
@@ -44,15 +43,12 @@ fn pairs_sound(pairs: [Waiting; 30], n: u32) -> bool
     true
 }
 
-fn calibration_sound(k: Calibration) -> bool
+fn calibration_sound(k: Option<Function>) -> bool
     ensures { result ≡ calibration_sound_of k }
 {
     match k {
-        Calibration::Absent => true,
-        Calibration::InForce(f) => calibration::line_ranged(Line {
-            slope: f.slope,
-            intercept: f.intercept,
-        }),
+        None => true,
+        Some(f) => calibration::line_ranged(f.line()),
     }
 }
 

@@ -2,7 +2,7 @@
 use mathlib.Core.Path.{sym, ap}
 use Prim.Native.Nat.{ℕ}
 use Rattle.std.specs.Prelude.{if◌then◌else◌}
-use Rattle.records.specs.declared.state.Calibration.{Calibration}
+use Rattle.records.specs.Kinds.{Calibration}
 use Rattle.records.specs.Table.{value_refusal, in_force}
 use Rattle.records.specs.State.{facts_of}
 use Rattle.records.proofs.checks.value_refusal.Goals as goal
@@ -10,10 +10,10 @@ use Rattle.records.proofs.checks.value_refusal.Goals as goal
 abbrev by : Calibration → ℕ
 by k = if in_force k then 0 else 19
 
-pub returns-in-Absent : goal.returns-in-Absent
+pub returns-in-None : goal.returns-in-None
 unfolding value_refusal facts_of
-returns-in-Absent c = sym (ap by c.in-Absent.is)
+returns-in-None c = sym (ap by c.in-None.is)
 
-pub returns-in-InForce : goal.returns-in-InForce
+pub returns-in-Some : goal.returns-in-Some
 unfolding value_refusal facts_of
-returns-in-InForce c = sym (ap by c.in-InForce.is)
+returns-in-Some c = sym (ap by c.in-Some.is)
