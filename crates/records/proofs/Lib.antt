@@ -1,4 +1,5 @@
-pub mod ByteLoops
+pub mod NoBits
+pub mod LittleEndian
 pub mod SignedLaws
 pub mod ApplyLaws
 pub mod InPlaceLaws

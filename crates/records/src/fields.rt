@@ -1,36 +1,17 @@
 // The figures of a record (paper 01, 'Records').
 ghost use Rattle.std.specs.Prelude.{◌≡◌, true, ◌+◌, ◌≤◌, length};
-ghost use Rattle.records.specs.Record.{conditions_at, difference_of, field, function_of, length_of, long_field, minute, pair_of, reading_ranged, requirements_of, setting_of, setting_ranged, signed32, signed64, waiting_of, waiting_ranged};
+ghost use Rattle.records.specs.Record.{conditions_at, difference_of, field, function_of, length_of, long_field, minute, pair_of, reading_ranged, requirements_of, setting_of, setting_ranged, waiting_of, waiting_ranged};
 
 use crate::bytes;
 use crate::state::{Function, Setting, Waiting};
 use calibration::{Actual, Conditions, Pair, Requirements, Standard};
-
-// A signed number from its bits.
-fn signed(n: u32) -> i32
-    ensures { result ≡ signed32 n }
-{
-    if n < 2147483648 {
-        return n as i32;
-    }
-    -1 - ((4294967295 - n) as i32)
-}
-
-fn signed_long(n: u64) -> i64
-    ensures { result ≡ signed64 n }
-{
-    if n < 9223372036854775808 {
-        return n as i64;
-    }
-    -1 - ((18446744073709551615 - n) as i64)
-}
 
 // A signed field of four bytes.
 pub fn field_at(r: &[u8], at: usize) -> i32
     requires { at + 4 ≤ length r.now }
     ensures { result ≡ field r.now at }
 {
-    signed(bytes::read32(r, at))
+    i32::from_le_bytes(bytes::chunk(r, at))
 }
 
 // A signed field of eight bytes.
@@ -38,9 +19,7 @@ pub fn long_field_at(r: &[u8], at: usize) -> i64
     requires { at + 8 ≤ length r.now }
     ensures { result ≡ long_field r.now at }
 {
-    let low = bytes::read32(r, at) as u64;
-    let high = bytes::read32(r, at + 4) as u64;
-    signed_long(low + 4294967296 * high)
+    i64::from_le_bytes(bytes::chunk(r, at))
 }
 
 pub fn conditions_at(r: &[u8], at: usize) -> Conditions
