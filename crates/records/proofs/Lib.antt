@@ -1,3 +1,4 @@
+pub mod OutcomeLaws
 pub mod NoBits
 pub mod LittleEndian
 pub mod SignedLaws

@@ -1,6 +1,8 @@
 -- The state (paper 01: the standing): its beginning, its refusal of a record, and what an accepted record makes of it. Its edition (paper 02, C-12) is
 -- that of the block in which the next record stands, and between blocks that of the last one: 0 before the first, which rounds as 1 does.
-use Rattle.std.specs.Prelude.{Bool, true, false, ◌&&◌, ◌||◌, List, ℕ, ◌+◌, eqb, ltb, pos, take, set, replicate, if◌then◌else◌, None, Some}
+use Rattle.std.specs.Prelude.{Bool, true, false, ◌&&◌, ◌||◌, List, ℕ, ◌+◌, eqb, ltb, pos, take, set, replicate, if◌then◌else◌, None, Some, Result, Ok, Err}
+use Rattle.refusals.specs.Rows.{number_of}
+use Rattle.refusals.specs.declared.Refusal.{Refusal}
 use Rattle.charts.specs.Charts.{blank, reset_of, applied_of}
 use Rattle.charts.specs.declared.Chart.{Chart}
 use Rattle.records.specs.Record.{Record, minute, setting_of, difference_of, waiting_of, function_of}
@@ -9,7 +11,6 @@ use Rattle.records.specs.Table.{Facts, refusal_in}
 use Rattle.records.specs.declared.state.Setting.{Setting}
 use Rattle.records.specs.declared.state.Waiting.{Waiting}
 use Rattle.records.specs.declared.state.State.{State}
-use Rattle.records.specs.declared.state.Stepped.{Stepped}
 
 -- a place of the pair array that holds none
 unfoldable pub no_pair : Waiting
@@ -103,6 +104,16 @@ applied_to st r =
       demand = if calibrates r then None else (if fails r || turn && judges st then raised_of st.demand (minute r) else st.demand);
       edition = st.edition;
     }
+
+-- what becomes of a state and a record: the refusal (0 for none), and the state after it
+pub record Stepped : Type 0 where
+  pub refusal : ℕ
+  pub state : State
+
+-- an answer to a record as such an outcome: with a refusal the state is as it was
+abbrev pub stepped : State → Result State Refusal → Stepped
+stepped st (Ok after) = record { refusal = 0; state = after }
+stepped st (Err e) = record { refusal = number_of e; state = st }
 
 -- one record: refused, with the state as it was, or applied
 unfoldable pub step_of : State → Record → Stepped

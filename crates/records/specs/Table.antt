@@ -7,8 +7,8 @@ use Rattle.std.specs.Int.Signed.{le_z}
 use Rattle.calibration.specs.Calibration.{count_fits, fit_of, refused_fit}
 use Rattle.calibration.specs.Annual.{test_of, refused_test}
 use Rattle.calibration.specs.declared.Pair.{Pair}
-use Rattle.calibration.specs.declared.Fitted.{Fitted}
-use Rattle.calibration.specs.declared.Tested.{Tested}
+use Rattle.calibration.specs.Outcomes.{Fitted}
+use Rattle.calibration.specs.Outcomes.{Tested}
 use Rattle.records.specs.Record.{Record, kind, mark, minute, field, long_field, formed_of, ranged_of, length_of, coverage_of, z_of}
 use Rattle.records.specs.Kinds.{sets, day_of, response_of, line_of, Calibration}
 use Rattle.records.specs.declared.state.Setting.{Setting}

@@ -34,8 +34,7 @@ pub fn conditions_at(r: &[u8], at: usize) -> Conditions
     }
 }
 
-pub fn requirements_of(r: &[u8]) -> Requirements
-    requires { length r.now ≡ 40 }
+pub fn requirements_of(r: &[u8; 40]) -> Requirements
     ensures { result ≡ requirements_of r.now }
 {
     Requirements {
@@ -45,8 +44,8 @@ pub fn requirements_of(r: &[u8]) -> Requirements
     }
 }
 
-pub fn setting_of(r: &[u8]) -> Setting
-    requires { (length r.now ≡ 40) × (setting_ranged r.now ≡ true) }
+pub fn setting_of(r: &[u8; 40]) -> Setting
+    requires { setting_ranged r.now ≡ true }
     ensures { result ≡ setting_of r.now }
 {
     Setting {
@@ -58,15 +57,14 @@ pub fn setting_of(r: &[u8]) -> Setting
 }
 
 // A reading's difference.
-pub fn difference_of(r: &[u8]) -> i32
-    requires { (length r.now ≡ 40) × (reading_ranged r.now ≡ true) }
+pub fn difference_of(r: &[u8; 40]) -> i32
+    requires { reading_ranged r.now ≡ true }
     ensures { result ≡ difference_of r.now }
 {
     charts::difference(field_at(r, 8), field_at(r, 12))
 }
 
-pub fn pair_of(r: &[u8]) -> Pair
-    requires { length r.now ≡ 40 }
+pub fn pair_of(r: &[u8; 40]) -> Pair
     ensures { result ≡ pair_of r.now }
 {
     Pair {
@@ -77,15 +75,15 @@ pub fn pair_of(r: &[u8]) -> Pair
 }
 
 // A pair's length in minutes.
-pub fn length_of(r: &[u8]) -> u32
-    requires { (length r.now ≡ 40) × (waiting_ranged r.now ≡ true) }
+pub fn length_of(r: &[u8; 40]) -> u32
+    requires { waiting_ranged r.now ≡ true }
     ensures { (result ≡ length_of r.now) × (result ≤ 1440) }
 {
     field_at(r, 8) as u32
 }
 
-pub fn waiting_of(r: &[u8]) -> Waiting
-    requires { (length r.now ≡ 40) × (waiting_ranged r.now ≡ true) × (length_of r.now ≤ minute r.now) }
+pub fn waiting_of(r: &[u8; 40]) -> Waiting
+    requires { (waiting_ranged r.now ≡ true) × (length_of r.now ≤ minute r.now) }
     ensures { result ≡ waiting_of r.now }
 {
     let end = bytes::read32(r, 4);
@@ -97,8 +95,7 @@ pub fn waiting_of(r: &[u8]) -> Waiting
 }
 
 // The stored figures of a calibration closing, with its minute.
-pub fn function_of(r: &[u8]) -> Function
-    requires { length r.now ≡ 40 }
+pub fn function_of(r: &[u8; 40]) -> Function
     ensures { result ≡ function_of r.now }
 {
     Function {

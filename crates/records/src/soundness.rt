@@ -1,5 +1,5 @@
 // Whether a state is in the range in which its arithmetic fits.
-ghost use Rattle.std.specs.Prelude.{◌≡◌, ◌≤◌, length, take};
+ghost use Rattle.std.specs.Prelude.{◌≡◌};
 ghost use Rattle.records.specs.Soundness.{all_sound_of, begun_sound_of, calibration_sound_of, setting_sound_of, sound_of, waiting_sound_of};
 
 use crate::state::{Function, Setting, State, Waiting};
@@ -28,19 +28,10 @@ fn waiting_sound(w: Waiting) -> bool
     ((w.start <= 100000000) & (w.end <= 100000000)) & calibration::pair_ranged(p)
 }
 
-fn pairs_sound(pairs: [Waiting; 30], n: u32) -> bool
-    requires { n ≤ 30 }
-    ensures { result ≡ all_sound_of (take n pairs) }
+fn pairs_sound(pairs: &[Waiting]) -> bool
+    ensures { result ≡ all_sound_of pairs.now }
 {
-    let mut i: u32 = 0;
-    while i < n {
-        let w = pairs[i as usize];
-        if !waiting_sound(w) {
-            return false;
-        }
-        i += 1;
-    }
-    true
+    pairs.iter().all(|w| waiting_sound(*w))
 }
 
 fn calibration_sound(k: Option<Function>) -> bool
@@ -59,12 +50,9 @@ pub fn sound(most: u32, st: State) -> bool
     if 30 < st.pending {
         return false;
     }
-    let s = st.setting;
-    let zero = st.zero;
-    let span = st.span;
-    let pairs = st.pairs;
-    let k = st.calibration;
-    ((((st.minute <= 100000000) & begun_sound(st.begun, s)) & (zero.sound() & span.sound()))
-        & (((st.pending <= 30) & pairs_sound(pairs, st.pending)) & calibration_sound(k)))
+    ((((st.minute <= 100000000) & begun_sound(st.begun, st.setting))
+        & (st.zero.sound() & st.span.sound()))
+        & (((st.pending <= 30) & pairs_sound(&st.pairs[..st.pending as usize]))
+            & calibration_sound(st.calibration)))
         & (((st.total <= most) & (st.outside <= most)) & (st.over <= most))
 }

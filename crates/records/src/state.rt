@@ -64,10 +64,3 @@ pub struct State {
     pub demand: Option<u32>,
     pub edition: u8,
 }
-
-// What becomes of a state and a record: the refusal (0 for none), and the state after it.
-#[derive(Clone, Copy)]
-pub struct Stepped {
-    pub refusal: u32,
-    pub state: State,
-}

@@ -1,5 +1,4 @@
 -- `apply::with_failure` meets its contract.
-use mathlib.Core.Path.{◌∙◌}
 use Rattle.records.specs.StateParts.{with_demand, with_failure}
 use Rattle.records.proofs.ApplyLaws.{raised_or}
 use Rattle.records.proofs.apply.with_failure.Goals as goal

@@ -1,19 +1,20 @@
 -- `checks::value_refusal` meets its contract.
-use mathlib.Core.Path.{sym, ap}
-use Prim.Native.Nat.{ℕ}
-use Rattle.std.specs.Prelude.{if◌then◌else◌}
+use Rattle.std.proofs.Common.{◌≡◌, refl}
+use Rattle.std.specs.Prelude.{None, Some, is_some}
 use Rattle.records.specs.Kinds.{Calibration}
 use Rattle.records.specs.Table.{value_refusal, in_force}
 use Rattle.records.specs.State.{facts_of}
 use Rattle.records.proofs.checks.value_refusal.Goals as goal
 
-abbrev by : Calibration → ℕ
-by k = if in_force k then 0 else 19
+-- a function is in force where there is one
+forced : (k : Calibration) → in_force k ≡ is_some k
+forced None = refl
+forced (Some f) = refl
 
-pub returns-in-None : goal.returns-in-None
+pub returns-then-is_none : goal.returns-then-is_none
 unfolding value_refusal facts_of
-returns-in-None c = sym (ap by c.in-None.is)
+returns-then-is_none c = rw (forced, c.is_none.ensures, c.if-is_none.true)
 
-pub returns-in-Some : goal.returns-in-Some
+pub returns : goal.returns
 unfolding value_refusal facts_of
-returns-in-Some c = sym (ap by c.in-Some.is)
+returns c = rw (forced, c.is_none.ensures, c.if-is_none.false)

@@ -1,6 +1,5 @@
 -- `soundness::calibration_sound` meets its contract.
 use mathlib.Core.Path.{sym, ap, ◌∙◌}
-use Rattle.records.specs.Kinds.{Calibration}
 use Rattle.records.specs.Soundness.{calibration_sound_of}
 use Rattle.records.proofs.soundness.calibration_sound.Goals as goal
 
