@@ -1,5 +1,4 @@
 pub mod NoBits
-pub mod LittleEndian
 pub mod SignedLaws
 pub mod ApplyLaws
 pub mod InPlaceLaws
