@@ -1,6 +1,5 @@
 pub mod OutcomeLaws
 pub mod NoBits
-pub mod LittleEndian
 pub mod SignedLaws
 pub mod ApplyLaws
 pub mod InPlaceLaws

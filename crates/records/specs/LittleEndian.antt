@@ -1,5 +1,5 @@
 -- The library's `from_le_bytes` and `to_le_bytes` are the numbers and bytes of the file.
-use Rattle.std.proofs.Common.{◌≡◌, refl, ℕ, suc, ◌+◌, ◌-◌, ◌*◌, ◌/◌, ◌%◌, ◌<◌, Bool, true, false, ltb, pos, negsuc, cond, List, take, drop, slice_index, ◌∙◌, ap, arith}
+use Rattle.std.proofs.Common.{◌≡◌, refl, ℕ, suc, ◌+◌, ◌-◌, ◌*◌, ◌/◌, ◌%◌, ◌<◌, Bool, true, false, ltb, pos, negsuc, cond, List, ◌++◌, take, drop, slice_index, ◌∙◌, ap, arith}
 use Rattle.std.proofs.lemmas.List.{get_or-take, get_or-drop}
 use Rattle.std.specs.Int.{w16, w32, w64, byte_worth, from_le_bytes, to_le_bytes, cast_signed}
 use mir.Val.{sel}
@@ -71,4 +71,16 @@ pub to_le_bytes_32 : (n : ℕ) → to_le_bytes w32 n ≡ bytes32 n
 unfolding bytes16 bytes32
 to_le_bytes_32 n =
     let e : n / 16777216 % 256 ≡ n / 65536 / 256 % 256 = omega arith in
+    cc
+
+pub to_le_bytes_64 : (n : ℕ) → to_le_bytes w64 n ≡ bytes32 (n % 4294967296) ++ bytes32 (n / 4294967296)
+unfolding bytes16 bytes32
+to_le_bytes_64 n =
+    let e0 : n % 256 ≡ n % 4294967296 % 256 = omega arith in
+    let e1 : n / 256 % 256 ≡ n % 4294967296 / 256 % 256 = omega arith in
+    let e2 : n / 65536 % 256 ≡ n % 4294967296 / 65536 % 256 = omega arith in
+    let e3 : n / 16777216 % 256 ≡ n % 4294967296 / 65536 / 256 % 256 = omega arith in
+    let e5 : n / 1099511627776 % 256 ≡ n / 4294967296 / 256 % 256 = omega arith in
+    let e6 : n / 281474976710656 % 256 ≡ n / 4294967296 / 65536 % 256 = omega arith in
+    let e7 : n / 72057594037927936 % 256 ≡ n / 4294967296 / 65536 / 256 % 256 = omega arith in
     cc
