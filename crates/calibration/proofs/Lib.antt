@@ -7,3 +7,4 @@ pub mod StandardBound
 pub mod ResidualLaws
 pub mod LentListLaws
 pub mod SumLaws
+pub mod OrderLaws

@@ -14,11 +14,11 @@ ghost use Rattle.calibration.specs.CodeLaws.{SumsRanged, dispersion_of, slope_co
 use refusals::Refusal;
 
 // A concentration in analyser conditions.
-#[derive(Clone, Copy)]
+#[derive(Clone, Copy, PartialEq, Eq, PartialOrd, Ord)]
 pub struct Actual(pub i32);
 
 // A concentration in standard conditions. Of an `Actual`, only `standard_conditions` makes one.
-#[derive(Clone, Copy)]
+#[derive(Clone, Copy, PartialEq, Eq, PartialOrd, Ord)]
 pub struct Standard(pub i32);
 
 // Paper 01's t, p, h and o.
@@ -106,7 +106,7 @@ pub struct Verdicts {
 pub fn between(low: i64, high: i64, x: i64) -> bool
     ensures { result ≡ between_of low high x }
 {
-    (low <= x) & (x <= high)
+    (low..=high).contains(&x)
 }
 
 pub fn conditions_ranged(k: Conditions) -> bool
@@ -121,8 +121,9 @@ pub fn conditions_ranged(k: Conditions) -> bool
 pub fn pair_ranged(p: Pair) -> bool
     ensures { result ≡ pair_ranged_of p }
 {
-    let k = p.conditions;
-    between(0, 400000, p.signal as i64) & between(0, 400000, p.srm.0 as i64) & conditions_ranged(k)
+    between(0, 400000, p.signal as i64)
+        & between(0, 400000, p.srm.0 as i64)
+        & conditions_ranged(p.conditions)
 }
 
 pub fn requirements_ranged(q: Requirements) -> bool
@@ -227,32 +228,12 @@ fn pair_sums(pairs: &[Pair]) -> Sums
     u
 }
 
-fn lower(a: Standard, b: Standard) -> Standard
-    ensures { result ≡ lower_of a b }
-{
-    if b.0 < a.0 {
-        return b;
-    }
-    a
-}
-
-fn higher(a: Standard, b: Standard) -> Standard
-    ensures { result ≡ higher_of a b }
-{
-    if a.0 < b.0 {
-        return b;
-    }
-    a
-}
-
 fn widened(s: Span, v: Standard) -> Span
     ensures { result ≡ widened_of s v }
 {
-    let low = s.low;
-    let high = s.high;
     Span {
-        low: lower(low, v),
-        high: higher(high, v),
+        low: s.low.min(v),
+        high: s.high.max(v),
     }
 }
 
@@ -351,9 +332,8 @@ fn with_residual(r: Residuals, y: Standard, c: Standard) -> Residuals
     ensures { result ≡ with_residual_of r y c }
 {
     let d = y.0 as i64 - c.0 as i64;
-    let most = r.most;
     Residuals {
-        most: higher(most, c),
+        most: r.most.max(c),
         sum: r.sum + d,
         squares: r.squares + d * d,
     }
@@ -399,7 +379,7 @@ fn top(edition: u8, limit: i32, most: Standard) -> Standard
     if edition != 2 {
         return first;
     }
-    higher(first, share(edition, 20, limit))
+    first.max(share(edition, 20, limit))
 }
 
 // ---- verdicts
@@ -407,13 +387,13 @@ fn top(edition: u8, limit: i32, most: Standard) -> Standard
 pub fn count_fits(n: u32) -> bool
     ensures { result ≡ count_fits n }
 {
-    ((15 <= n) & (n <= 20)) | ((n == 25) | (n == 30))
+    matches!(n, 15..=20 | 25 | 30)
 }
 
 fn annual_count_fits(n: u32) -> bool
     ensures { result ≡ annual_count_fits n }
 {
-    (5 <= n) & (n <= 8)
+    matches!(n, 5..=8)
 }
 
 // The factor k of a calibration, in ten-thousandths.
@@ -479,22 +459,12 @@ fn covered(n: u32, l: u64, q: u64) -> bool
     ((n - 1) as u64) * (l * l) <= tt * (q / 1000000) + tt * (q % 1000000) / 1000000
 }
 
-fn magnitude(x: i64) -> u64
-    requires { nat_abs x ≤ 600000000 }
-    ensures { result ≡ nat_abs x }
-{
-    if x < 0 {
-        return (-x) as u64;
-    }
-    x as u64
-}
-
 // The function test: |ΣD| is at most Nσ, or what it exceeds that by is covered.
 fn function_holds(n: u32, sum: i64, q: u64, sigma: u32) -> bool
     requires { (n ≤ 8) × (0 < n) × (nat_abs sum ≤ 600000000) × (q ≤ 1000000000000000000) × (sigma ≤ 10000) }
     ensures { result ≡ function_of n sum (pos q) (pos sigma) }
 {
-    let a = magnitude(sum);
+    let a = sum.unsigned_abs();
     let b = (n as u64) * (sigma as u64);
     if a <= b {
         return true;
