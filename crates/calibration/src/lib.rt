@@ -63,14 +63,14 @@ struct Sample<'a> {
     ghost required: { requirements_ranged_of basis.requirements ≡ true },
 }
 
-// A calibration function: slope B and intercept A.
+// A calibration function: slope B and intercept A. Its range is no ghost field: `line_ranged` asks it of any line, and the definitions make lines of any.
 #[derive(Clone, Copy)]
 pub struct Line {
     pub slope: i32,
     pub intercept: i64,
 }
 
-// N, Σx, Σy, Σxy and Σx².
+// N, Σx, Σy, Σxy and Σx². Their range is asked by a clause where it is needed, and is no ghost field: the definitions sum pairs of any range.
 #[derive(Clone, Copy, Default)]
 pub struct Sums {
     pub n: u32,
@@ -211,17 +211,6 @@ fn plus(u: Sums, p: Pair) -> Sums
     }
 }
 
-fn pair_sums(pairs: &[Pair]) -> Sums
-    requires { (length pairs.now ≤ 30) × AllRanged pairs.now }
-    ensures { result ≡ sums_of pairs.now }
-{
-    let mut u = Sums::default();
-    for p in pairs {
-        u = plus(u, *p);
-    }
-    u
-}
-
 fn widened(s: Span, v: Standard) -> Span
     ensures { result ≡ widened_of s v }
 {
@@ -346,6 +335,8 @@ fn annual_count_fits(n: u32) -> bool
     matches!(n, 5..=8)
 }
 
+// Of the factors each has its own table, and so its own function: data, with 0 where there is no row, as in the definitions. The counts are tested before.
+
 // The factor k of a calibration, in ten-thousandths.
 fn k_factor(n: u32) -> u32
     ensures { (result ≡ k_of n) × (result ≤ 10000) }
@@ -443,6 +434,16 @@ impl<'a> Sample<'a> {
         value(b.edition, b.requirements.oxygen, l, p.conditions, p.signal)
     }
 
+    fn sums(self) -> Sums
+        ensures { result ≡ sums_of self.entry.pairs.now }
+    {
+        let mut u = Sums::default();
+        for p in self.pairs {
+            u = plus(u, *p);
+        }
+        u
+    }
+
     // Whether the y' differ by less than 15 % of the limit.
     fn is_flat(self) -> bool
         requires { 0 < length self.pairs.now }
@@ -523,14 +524,11 @@ impl<'a> Sample<'a> {
         if d <= 0 {
             return Err(Refusal::Divisor);
         }
-        let Some(m) = slope(edition, rise(flat, u), d) else {
+        let Some(slope) = slope(edition, rise(flat, u), d) else {
             return Err(Refusal::Slope);
         };
-        let a = intercept(edition, flat, u, z, m);
-        self.line_fits(Line {
-            slope: m,
-            intercept: a,
-        })
+        let intercept = intercept(edition, flat, u, z, slope);
+        self.line_fits(Line { slope, intercept })
     }
 }
 
@@ -543,7 +541,7 @@ pub fn fit(pairs: &[Pair], b: Basis, z: i32) -> Result<Figures, Refusal>
         return Err(Refusal::Count);
     }
     let sample = Sample { pairs, basis: b };
-    sample.fit_from(z, pair_sums(pairs))
+    sample.fit_from(z, sample.sums())
 }
 
 // The annual test's outcome, of the function in force.

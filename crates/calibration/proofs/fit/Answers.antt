@@ -18,7 +18,7 @@ unfolding sums_of
 fit_from-requires c =
     let ps = c.args.pairs.now in
     let above = count_above (length ps) (sym c.count_fits.ensures ∙ c.if-not-count_fits.false) in
-    (above, rw (to_z-of_z {w = w32} c.ranges.z) c.requires.3, rw c.pair_sums.ensures (sums_ranged ps c.requires.1 c.requires.0), rw c.pair_sums.ensures above)
+    (above, rw (to_z-of_z {w = w32} c.ranges.z) c.requires.3, rw c.sums.ensures (sums_ranged ps c.requires.1 c.requires.0), rw c.sums.ensures above)
 
 pub returns : goal.returns
 returns c =
@@ -26,6 +26,6 @@ returns c =
     let e = c.args.b.edition in
     let q = c.args.b.requirements in
     c.fit_from.ensures
-    ∙ ap (λ (z : ℤ). fit_from e q z ps c.pair_sums.result) (to_z-of_z {w = w32} c.ranges.z)
-    ∙ ap (fit_from e q c.args.z ps) c.pair_sums.ensures
+    ∙ ap (λ (z : ℤ). fit_from e q z ps c.sums.result) (to_z-of_z {w = w32} c.ranges.z)
+    ∙ ap (fit_from e q c.args.z ps) c.sums.ensures
     ∙ sym (count_fit e q c.args.z ps (sym c.count_fits.ensures ∙ c.if-not-count_fits.false))

@@ -103,8 +103,8 @@ returns-in_default c =
     let above = subst (λ (x : ℤ). pos 0 <ℤ x) e (le_false (D c.divisor-d.result V) Zero c.if-d-le0.false) in
     sym (no_slope b.edition b.requirements z ps u above (slope_refused b.edition (rise b z ps u c.ranges.z) (divisor b z ps u c.ranges.z) (sym s ∙ c.in_default.is)))
 
-pub intercept-a-requires : goal.intercept-a-requires
-intercept-a-requires c =
+pub intercept-intercept-requires : goal.intercept-intercept-requires
+intercept-intercept-requires c =
     let b = c.args.self.basis in
     let z = c.args.z in
     let ps = c.args.self.pairs.now in
@@ -123,11 +123,11 @@ line_fits-requires c =
     let u = c.args.u in
     let R : SFits w64 c.rise.result = record { sfits = c.rise.type_inv } in
     let V : SFits w64 c.divisor-d.result = record { sfits = c.divisor-d.type_inv } in
-    let I : SFits w64 c.intercept-a.result = record { sfits = c.intercept-a.type_inv } in
+    let I : SFits w64 c.intercept-intercept.result = record { sfits = c.intercept-intercept.type_inv } in
     let s = slope-is b z ps u c.ranges.z R V c.is_flat-flat.ensures c.rise.ensures c.divisor-d.ensures c.slope.ensures in
     let S = sym s ∙ c.in-Some.is in
     let k = slope-kept b z ps u c.ranges.z S in
-    let a = intercept-is b z ps u c.ranges.z c.in-Some.m c.is_flat-flat.ensures k c.intercept-a.ensures in
+    let a = intercept-is b z ps u c.ranges.z c.in-Some.slope c.is_flat-flat.ensures k c.intercept-intercept.ensures in
     (c.requires.0, rw (k, to_z-of_z {w = w64} I, a) (line_ranged b.edition c.requires.2 c.requires.3 c.requires.1 (slope-ranged b z ps u c.ranges.z S) (flat b z ps u c.ranges.z)))
 
 pub returns : goal.returns
@@ -138,14 +138,14 @@ returns c =
     let u = c.args.u in
     let R : SFits w64 c.rise.result = record { sfits = c.rise.type_inv } in
     let V : SFits w64 c.divisor-d.result = record { sfits = c.divisor-d.type_inv } in
-    let I : SFits w64 c.intercept-a.result = record { sfits = c.intercept-a.type_inv } in
+    let I : SFits w64 c.intercept-intercept.result = record { sfits = c.intercept-intercept.type_inv } in
     let s = slope-is b z ps u c.ranges.z R V c.is_flat-flat.ensures c.rise.ensures c.divisor-d.ensures c.slope.ensures in
     let S = sym s ∙ c.in-Some.is in
     let k = slope-kept b z ps u c.ranges.z S in
-    let a = intercept-is b z ps u c.ranges.z c.in-Some.m c.is_flat-flat.ensures k c.intercept-a.ensures in
+    let a = intercept-is b z ps u c.ranges.z c.in-Some.slope c.is_flat-flat.ensures k c.intercept-intercept.ensures in
     let e = divisor-is b z ps u c.ranges.z c.is_flat-flat.ensures c.divisor-d.ensures in
     let above = subst (λ (x : ℤ). pos 0 <ℤ x) e (le_false (D c.divisor-d.result V) Zero c.if-d-le0.false) in
     c.line_fits.ensures
-    ∙ ap (λ (m : ℤ). line_fits b.edition b.requirements ps (record { slope = m; intercept = to_z w64 (of_z w64 c.intercept-a.result) })) k
+    ∙ ap (λ (m : ℤ). line_fits b.edition b.requirements ps (record { slope = m; intercept = to_z w64 (of_z w64 c.intercept-intercept.result) })) k
     ∙ ap (λ (v : ℤ). line_fits b.edition b.requirements ps (record { slope = slope b z ps u c.ranges.z; intercept = v })) (to_z-of_z {w = w64} I ∙ a)
     ∙ sym (a_line b.edition b.requirements z ps u above (kept b z ps u c.ranges.z S))
