@@ -8,3 +8,4 @@ pub mod ResidualLaws
 pub mod LentListLaws
 pub mod SumLaws
 pub mod OrderLaws
+pub mod SampleLaws
