@@ -11,3 +11,4 @@ pub mod TableLaws
 pub mod SoundnessLaws
 pub mod AnswersLaws
 pub mod LentListLaws
+pub mod HalvesLaws
