@@ -9,3 +9,4 @@ pub mod LentListLaws
 pub mod SumLaws
 pub mod OrderLaws
 pub mod SampleLaws
+pub mod OutcomeLaws

@@ -44,6 +44,5 @@ next_pair ps i h = drop-cons ps i unset h ∙ rw (add-one i)
 pub ranged_at : (ps : List Pair) (i : ℕ) → i < length ps → AllRanged ps → PairRanged (get_or ps i unset)
 ranged_at ps i h P = at AllRanged PairRanged (λ p ps r. r) ps i unset h P
 
--- the same of the first n of an array
 pub pair_ranged : (xs : List Pair) (n : ℕ) → n ≤ length xs → AllRanged (take n xs) → (i : ℕ) → i < n → PairRanged (get_or xs i unset)
 pair_ranged xs n N P i h = member xs n N AllRanged PairRanged (λ p ps r. r) P i unset h
