@@ -6,7 +6,7 @@ use calibration::{Line, Pair, Requirements, Standard};
 use charts::Chart;
 
 // What the first record sets: E, σ and the reference oxygen, s of each chart, and the response minutes.
-#[derive(Clone, Copy)]
+#[derive(Clone, Copy, Default)]
 pub struct Setting {
     pub requirements: Requirements,
     pub zero: u16,
@@ -15,7 +15,7 @@ pub struct Setting {
 }
 
 // A pair that waits for a closing: its start, its end, and its figures.
-#[derive(Clone, Copy)]
+#[derive(Clone, Copy, Default)]
 pub struct Waiting {
     pub start: u32,
     pub end: u32,
