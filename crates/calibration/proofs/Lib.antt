@@ -8,3 +8,5 @@ pub mod ResidualLaws
 pub mod LentListLaws
 pub mod SumLaws
 pub mod OrderLaws
+pub mod SampleLaws
+pub mod OutcomeLaws

@@ -1,5 +1,5 @@
 -- The lower and the higher of two values as the derived order gives them.
-use Rattle.std.proofs.Common.{◌≡◌, refl, ap, sym, ◌∙◌, T, arith, Less, Equal, Greater}
+use Rattle.std.proofs.Common.{◌≡◌, refl, ap, ◌∙◌, T, arith, Less, Equal, Greater}
 use Rattle.std.specs.Prelude.{Bool, true, false, not, cond, ℤ}
 use Rattle.std.specs.Int.Signed.{lt_z, lt_z_yes, lt_z_no}
 use Rattle.std.specs.Ordering.{is_lt, ord_min, ord_max}

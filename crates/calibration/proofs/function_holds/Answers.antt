@@ -1,5 +1,5 @@
 -- `calibration::function_holds` meets its contract.
-use Rattle.std.proofs.Common.{◌≡◌, sym, ap, ◌∙◌, ◌-◌, ◌*◌, ℕ, arith, leb, rules, to_z-of_z}
+use Rattle.std.proofs.Common.{◌≡◌, sym, ap, ◌∙◌, ◌-◌, ◌*◌, ℕ, arith, leb, rules}
 use Rattle.std.specs.Prelude.{nat_abs}
 use Rattle.calibration.specs.Annual.{t_of}
 use Rattle.calibration.specs.CodeLaws.{function_under, function_over}

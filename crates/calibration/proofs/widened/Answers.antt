@@ -1,5 +1,4 @@
 -- `calibration::widened` meets its contract.
-use Rattle.std.proofs.Common.{◌∙◌}
 use Rattle.calibration.specs.Calibration.{widened_of}
 use Rattle.calibration.proofs.OrderLaws.{min_is, max_is}
 use Rattle.calibration.proofs.widened.Goals as goal

@@ -1,4 +1,4 @@
--- `calibration::is_flat` meets its contract.
+-- `calibration::Sample::is_flat` meets its contract.
 use Rattle.std.proofs.Common.{◌≡◌, ap, ◌∙◌, ◌≤◌, ◌<◌, ℕ, List, map, length, drop, get_or, drop_of_length-le, arith, SFits}
 use lib.Dec.{lit<}
 use lib.IntN.{pos, nat_abs, ◌-ℤ◌, ◌*ℤ◌}
@@ -16,7 +16,8 @@ use Rattle.calibration.proofs.FitLaws.{product_size}
 use Rattle.calibration.specs.declared.Basis.{Basis}
 use Rattle.calibration.specs.declared.Pair.{Pair}
 use Rattle.calibration.specs.declared.Span.{Span}
-use Rattle.calibration.proofs.is_flat.Goals as goal
+use Rattle.calibration.proofs.SampleLaws.{all_ranged, required}
+use Rattle.calibration.proofs.Sample.is_flat.Goals as goal
 
 -- y' of a pair of the list
 module _ (b : Basis) (ps : List Pair) (P : AllRanged ps) (Q : RequirementsRanged b.requirements) (i : ℕ) (h : i < length ps) where
@@ -25,28 +26,31 @@ module _ (b : Basis) (ps : List Pair) (P : AllRanged ps) (Q : RequirementsRanged
 
 pub loop-p-init : goal.loop-p-init
 loop-p-init c =
-    let ps = c.args.pairs.now in
-    let b = c.args.b in
+    let ps = c.args.self.pairs.now in
+    let b = c.args.self.basis in
     let e = c.measured-first.ensures in
-    let h = sized b ps c.requires.1 c.requires.2 0 c.requires.0 in
+    let h = sized b ps (all_ranged c.args.self.pairs.now c.args.self.ranged) (required c.args.self.basis.requirements c.args.self.required) 0 c.requires in
     record {
       spanned = rw e (record { low = h; high = h });
-      whole = rw (e, next_pair ps 0 c.requires.0) (span_begun (measured_of b.edition b.requirements.oxygen (get_or ps 0 unset)) (map (measured_of b.edition b.requirements.oxygen) (drop 1 ps)));
+      whole = rw (e, next_pair ps 0 c.requires) (span_begun (measured_of b.edition b.requirements.oxygen (get_or ps 0 unset)) (map (measured_of b.edition b.requirements.oxygen) (drop 1 ps)));
     }
 
+pub measured-first-requires : goal.measured-first-requires
+measured-first-requires c = ranged_at c.args.self.pairs.now 0 c.requires (all_ranged c.args.self.pairs.now c.args.self.ranged)
+
 pub measured-requires : goal.measured-requires
-measured-requires c = (c.requires.2, ranged_at c.args.pairs.now c.loop-p.p-index c.loop-p-test.true c.requires.1)
+measured-requires c = (ranged_at c.args.self.pairs.now c.loop-p.p-index c.loop-p-test.true (all_ranged c.args.self.pairs.now c.args.self.ranged))
 
 pub loop-p-preserved : goal.loop-p-preserved
 loop-p-preserved c =
-    let ps = c.args.pairs.now in
-    let b = c.args.b in
+    let ps = c.args.self.pairs.now in
+    let b = c.args.self.basis in
     let i = c.loop-p.p-index in
     let h = c.loop-p-test.true in
     let v = measured_of b.edition b.requirements.oxygen (get_or ps i unset) in
     let left = rw (next_pair ps i h) at c.loop-p.invariant.whole in
     record {
-      spanned = rw (c.widened-s.ensures, c.measured.ensures) (widened_spanned v c.loop-p.invariant.spanned (sized b ps c.requires.1 c.requires.2 i h));
+      spanned = rw (c.widened-s.ensures, c.measured.ensures) (widened_spanned v c.loop-p.invariant.spanned (sized b ps (all_ranged c.args.self.pairs.now c.args.self.ranged) (required c.args.self.basis.requirements c.args.self.required) i h));
       whole = rw (c.widened-s.ensures, c.measured.ensures) left;
     }
 
@@ -90,7 +94,7 @@ pub returns : goal.returns
 unfolding flat_of
 returns c =
     let S = c.loop-p.invariant.spanned in
-    let ps = c.args.pairs.now in
-    let b = c.args.b in
+    let ps = c.args.self.pairs.now in
+    let b = c.args.self.basis in
     let whole : c.loop-p.s ≡ span_of (map (measured_of b.edition b.requirements.oxygen) ps) = rw (drop_of_length-le ps {i = c.loop-p.p-index} c.loop-p-test.false) at c.loop-p.invariant.whole in
-    lt_flag (KD c.loop-p.s S) (FE b c.requires.2) ∙ ap (λ (v : Span). lt_z (pos 100 *ℤ (v.high.0 -ℤ v.low.0)) (pos 15 *ℤ b.requirements.limit)) whole
+    lt_flag (KD c.loop-p.s S) (FE b (required c.args.self.basis.requirements c.args.self.required)) ∙ ap (λ (v : Span). lt_z (pos 100 *ℤ (v.high.0 -ℤ v.low.0)) (pos 15 *ℤ b.requirements.limit)) whole

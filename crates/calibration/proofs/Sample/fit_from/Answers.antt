@@ -1,4 +1,4 @@
--- `calibration::fit_from` meets its contract.
+-- `calibration::Sample::fit_from` meets its contract.
 use Rattle.std.proofs.Common.{◌≡◌, sym, ap, subst, ◌∙◌, T, true, arith, to_z-of_z, SFits, w32, w64, Some, List}
 use Rattle.std.specs.Prelude.{Bool, ℤ, pos, nat_abs, ◌≤ℤ◌, ◌<ℤ◌, Option}
 use lib.Dec.{lit<}
@@ -13,7 +13,7 @@ use Rattle.calibration.proofs.VerdictLaws.{divisor_by, slope_by, no_divisor, no_
 use Rattle.calibration.specs.declared.Basis.{Basis}
 use Rattle.calibration.specs.declared.Pair.{Pair}
 use Rattle.calibration.specs.declared.Sums.{Sums}
-use Rattle.calibration.proofs.fit_from.Goals as goal
+use Rattle.calibration.proofs.Sample.fit_from.Goals as goal
 
 abbrev Zero : Loc w64
 Zero = lit 0 (lit< tt)
@@ -72,29 +72,29 @@ D d f = arg d f
 
 pub returns-then-d-le0 : goal.returns-then-d-le0
 returns-then-d-le0 c =
-    let b = c.args.b in
-    let e = divisor-is b c.args.z c.args.pairs.now c.args.u c.ranges.z c.is_flat-flat.ensures c.divisor-d.ensures in
+    let b = c.args.self.basis in
+    let e = divisor-is b c.args.z c.args.self.pairs.now c.args.u c.ranges.z c.is_flat-flat.ensures c.divisor-d.ensures in
     let d = D c.divisor-d.result (record { sfits = c.divisor-d.type_inv }) in
-    sym (no_divisor b.edition b.requirements c.args.z c.args.pairs.now c.args.u (subst (λ (x : ℤ). x ≤ℤ pos 0) e (le_true d Zero c.if-d-le0.true)))
+    sym (no_divisor b.edition b.requirements c.args.z c.args.self.pairs.now c.args.u (subst (λ (x : ℤ). x ≤ℤ pos 0) e (le_true d Zero c.if-d-le0.true)))
 
 pub slope-requires : goal.slope-requires
 slope-requires c =
-    let b = c.args.b in
-    let e = divisor-is b c.args.z c.args.pairs.now c.args.u c.ranges.z c.is_flat-flat.ensures c.divisor-d.ensures in
-    let m = rise-is b c.args.z c.args.pairs.now c.args.u c.ranges.z c.is_flat-flat.ensures c.rise.ensures in
+    let b = c.args.self.basis in
+    let e = divisor-is b c.args.z c.args.self.pairs.now c.args.u c.ranges.z c.is_flat-flat.ensures c.divisor-d.ensures in
+    let m = rise-is b c.args.z c.args.self.pairs.now c.args.u c.ranges.z c.is_flat-flat.ensures c.rise.ensures in
     let d = D c.divisor-d.result (record { sfits = c.divisor-d.type_inv }) in
     let r = D c.rise.result (record { sfits = c.rise.type_inv }) in
-    let f = flat_of b.edition b.requirements c.args.pairs.now in (
-      omega (arith, ap nat_abs (r.reads ∙ m), rise_bound c.requires.5 f),
+    let f = flat_of b.edition b.requirements c.args.self.pairs.now in (
+      omega (arith, ap nat_abs (r.reads ∙ m), rise_bound c.requires.2 f),
       subst (λ (x : ℤ). pos 0 <ℤ x) (sym d.reads) (le_false d Zero c.if-d-le0.false),
-      omega (arith, ap nat_abs (d.reads ∙ e), divisor_bound c.requires.5 c.requires.4 f),
+      omega (arith, ap nat_abs (d.reads ∙ e), divisor_bound c.requires.2 c.requires.1 f),
     )
 
 pub returns-in_default : goal.returns-in_default
 returns-in_default c =
-    let b = c.args.b in
+    let b = c.args.self.basis in
     let z = c.args.z in
-    let ps = c.args.pairs.now in
+    let ps = c.args.self.pairs.now in
     let u = c.args.u in
     let R : SFits w64 c.rise.result = record { sfits = c.rise.type_inv } in
     let V : SFits w64 c.divisor-d.result = record { sfits = c.divisor-d.type_inv } in
@@ -103,49 +103,49 @@ returns-in_default c =
     let above = subst (λ (x : ℤ). pos 0 <ℤ x) e (le_false (D c.divisor-d.result V) Zero c.if-d-le0.false) in
     sym (no_slope b.edition b.requirements z ps u above (slope_refused b.edition (rise b z ps u c.ranges.z) (divisor b z ps u c.ranges.z) (sym s ∙ c.in_default.is)))
 
-pub intercept-a-requires : goal.intercept-a-requires
-intercept-a-requires c =
-    let b = c.args.b in
+pub intercept-intercept-requires : goal.intercept-intercept-requires
+intercept-intercept-requires c =
+    let b = c.args.self.basis in
     let z = c.args.z in
-    let ps = c.args.pairs.now in
+    let ps = c.args.self.pairs.now in
     let u = c.args.u in
     let R : SFits w64 c.rise.result = record { sfits = c.rise.type_inv } in
     let V : SFits w64 c.divisor-d.result = record { sfits = c.divisor-d.type_inv } in
     let s = slope-is b z ps u c.ranges.z R V c.is_flat-flat.ensures c.rise.ensures c.divisor-d.ensures c.slope.ensures in
     let S = sym s ∙ c.in-Some.is in
-    (c.requires.5, c.requires.6, rw (back b z ps u c.ranges.z) c.requires.4, rw (slope-kept b z ps u c.ranges.z S) (slope-ranged b z ps u c.ranges.z S))
+    (c.requires.2, c.requires.3, rw (back b z ps u c.ranges.z) c.requires.1, rw (slope-kept b z ps u c.ranges.z S) (slope-ranged b z ps u c.ranges.z S))
 
 pub line_fits-requires : goal.line_fits-requires
 line_fits-requires c =
-    let b = c.args.b in
+    let b = c.args.self.basis in
     let z = c.args.z in
-    let ps = c.args.pairs.now in
+    let ps = c.args.self.pairs.now in
     let u = c.args.u in
     let R : SFits w64 c.rise.result = record { sfits = c.rise.type_inv } in
     let V : SFits w64 c.divisor-d.result = record { sfits = c.divisor-d.type_inv } in
-    let I : SFits w64 c.intercept-a.result = record { sfits = c.intercept-a.type_inv } in
+    let I : SFits w64 c.intercept-intercept.result = record { sfits = c.intercept-intercept.type_inv } in
     let s = slope-is b z ps u c.ranges.z R V c.is_flat-flat.ensures c.rise.ensures c.divisor-d.ensures c.slope.ensures in
     let S = sym s ∙ c.in-Some.is in
     let k = slope-kept b z ps u c.ranges.z S in
-    let a = intercept-is b z ps u c.ranges.z c.in-Some.m c.is_flat-flat.ensures k c.intercept-a.ensures in
-    (c.requires.0, c.requires.1, c.requires.2, c.requires.3, rw (k, to_z-of_z {w = w64} I, a) (line_ranged b.edition c.requires.5 c.requires.6 c.requires.4 (slope-ranged b z ps u c.ranges.z S) (flat b z ps u c.ranges.z)))
+    let a = intercept-is b z ps u c.ranges.z c.in-Some.slope c.is_flat-flat.ensures k c.intercept-intercept.ensures in
+    (c.requires.0, rw (k, to_z-of_z {w = w64} I, a) (line_ranged b.edition c.requires.2 c.requires.3 c.requires.1 (slope-ranged b z ps u c.ranges.z S) (flat b z ps u c.ranges.z)))
 
 pub returns : goal.returns
 returns c =
-    let b = c.args.b in
+    let b = c.args.self.basis in
     let z = c.args.z in
-    let ps = c.args.pairs.now in
+    let ps = c.args.self.pairs.now in
     let u = c.args.u in
     let R : SFits w64 c.rise.result = record { sfits = c.rise.type_inv } in
     let V : SFits w64 c.divisor-d.result = record { sfits = c.divisor-d.type_inv } in
-    let I : SFits w64 c.intercept-a.result = record { sfits = c.intercept-a.type_inv } in
+    let I : SFits w64 c.intercept-intercept.result = record { sfits = c.intercept-intercept.type_inv } in
     let s = slope-is b z ps u c.ranges.z R V c.is_flat-flat.ensures c.rise.ensures c.divisor-d.ensures c.slope.ensures in
     let S = sym s ∙ c.in-Some.is in
     let k = slope-kept b z ps u c.ranges.z S in
-    let a = intercept-is b z ps u c.ranges.z c.in-Some.m c.is_flat-flat.ensures k c.intercept-a.ensures in
+    let a = intercept-is b z ps u c.ranges.z c.in-Some.slope c.is_flat-flat.ensures k c.intercept-intercept.ensures in
     let e = divisor-is b z ps u c.ranges.z c.is_flat-flat.ensures c.divisor-d.ensures in
     let above = subst (λ (x : ℤ). pos 0 <ℤ x) e (le_false (D c.divisor-d.result V) Zero c.if-d-le0.false) in
     c.line_fits.ensures
-    ∙ ap (λ (m : ℤ). line_fits b.edition b.requirements ps (record { slope = m; intercept = to_z w64 (of_z w64 c.intercept-a.result) })) k
+    ∙ ap (λ (m : ℤ). line_fits b.edition b.requirements ps (record { slope = m; intercept = to_z w64 (of_z w64 c.intercept-intercept.result) })) k
     ∙ ap (λ (v : ℤ). line_fits b.edition b.requirements ps (record { slope = slope b z ps u c.ranges.z; intercept = v })) (to_z-of_z {w = w64} I ∙ a)
     ∙ sym (a_line b.edition b.requirements z ps u above (kept b z ps u c.ranges.z S))

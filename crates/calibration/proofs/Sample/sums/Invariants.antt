@@ -3,11 +3,11 @@ use Rattle.std.proofs.Common.{◌≡◌, drop}
 use mathlib.Core.List.{foldl}
 use Rattle.calibration.specs.Calibration.{plus_of, sums_of}
 use Rattle.calibration.specs.CodeLaws.{SumsRanged}
-use Rattle.calibration.proofs.pair_sums.Given as goal
+use Rattle.calibration.proofs.Sample.sums.Given as goal
 
 abbrev pub invariant-loop-p : goal.invariant-loop-p
 invariant-loop-p l = record {
   counted : l.u.n ≡ l.p-index;
   ranged : SumsRanged l.u;
-  whole : foldl plus_of l.u (drop l.p-index l.pairs) ≡ sums_of l.pairs;
+  whole : foldl plus_of l.u (drop l.p-index l.self.pairs.now) ≡ sums_of l.self.pairs.now;
 }
