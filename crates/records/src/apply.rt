@@ -250,6 +250,7 @@ pub fn apply(st: State, r: &[u8; 40]) -> State
     ensures { result ≡ applied_to st r.now }
 {
     let s = judged(st, bytes::read32(r, 4));
+    // The kind stays a byte, matched with ranges: a rule of the project.
     match r[0] {
         1 => State {
             setting: fields::setting_of(r),
@@ -273,8 +274,7 @@ pub fn apply(st: State, r: &[u8; 40]) -> State
 pub fn in_week(kind: u8, st: State, r: &[u8; 40]) -> bool
     ensures { result ≡ in_week_of kind st r.now }
 {
-    let m = bytes::read32(r, 4);
-    (r[0] == kind) & (m / 10080 <= st.minute / 10080)
+    (r[0] == kind) & (bytes::read32(r, 4) / 10080 <= st.minute / 10080)
 }
 
 // A value: the minute changes, and with mark 0 the tally.

@@ -72,19 +72,16 @@ fn times_fit(st: State, r: &[u8; 40]) -> bool
 {
     let m = bytes::read32(r, 4);
     let l = fields::length_of(r);
-    let s = st.setting;
-    if l < 4 * response(s) {
+    if l < 4 * response(st.setting) {
         return false;
     }
     if m < l {
         return false;
     }
-    let n = st.pending;
-    if n == 0 {
-        return true;
+    match st.pairs[..st.pending as usize].last() {
+        None => true,
+        Some(w) => follows(*w, m - l, l),
     }
-    let w = st.pairs[(n - 1) as usize];
-    follows(w, m - l, l)
 }
 
 pub fn pair_refusal(st: State, r: &[u8; 40]) -> Result<(), Refusal>
