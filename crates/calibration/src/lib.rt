@@ -14,7 +14,7 @@ ghost use Rattle.calibration.specs.CodeLaws.{SumsRanged, dispersion_of, slope_co
 use refusals::Refusal;
 
 // A concentration in analyser conditions.
-#[derive(Clone, Copy, PartialEq, Eq, PartialOrd, Ord)]
+#[derive(Clone, Copy, Default, PartialEq, Eq, PartialOrd, Ord)]
 pub struct Actual(pub i32);
 
 // A concentration in standard conditions. Of an `Actual`, only `standard_conditions` makes one.
@@ -22,7 +22,7 @@ pub struct Actual(pub i32);
 pub struct Standard(pub i32);
 
 // Paper 01's t, p, h and o.
-#[derive(Clone, Copy)]
+#[derive(Clone, Copy, Default)]
 pub struct Conditions {
     pub temperature: i32,
     pub pressure: i32,
@@ -31,7 +31,7 @@ pub struct Conditions {
 }
 
 // What the fit takes of a pair: the analyser's signal x, the reference method's value y, and the conditions.
-#[derive(Clone, Copy)]
+#[derive(Clone, Copy, Default)]
 pub struct Pair {
     pub signal: i32,
     pub srm: Actual,
@@ -39,7 +39,7 @@ pub struct Pair {
 }
 
 // The limit E, the required uncertainty σ and the reference oxygen.
-#[derive(Clone, Copy)]
+#[derive(Clone, Copy, Default)]
 pub struct Requirements {
     pub limit: i32,
     pub uncertainty: i32,

@@ -3,7 +3,7 @@ pub mod NoBits
 pub mod SignedLaws
 pub mod ApplyLaws
 pub mod InPlaceLaws
-pub mod PairLoops
+pub mod PairLaws
 pub mod StateLaws
 pub mod AgreementLaws
 pub mod StepsLaws
