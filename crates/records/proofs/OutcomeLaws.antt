@@ -1,5 +1,5 @@
 -- No two answers to a record have one outcome: what a contract says of the outcome, it says of the answer.
-use Rattle.std.proofs.Common.{◌≡◌, ap, sym, ◌∙◌}
+use Rattle.std.proofs.Common.{◌≡◌, ap, sym}
 use Rattle.std.specs.Prelude.{Result, Ok, Err}
 use Rattle.refusals.specs.declared.Refusal.{Refusal}
 use Rattle.refusals.proofs.RowLaws.{some_row, number_same}

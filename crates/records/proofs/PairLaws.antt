@@ -1,5 +1,5 @@
 -- The pairs that wait: the last of them, as indexing and the library's `last` give it.
-use Rattle.std.proofs.Common.{◌≡◌, sym, subst, ◌∙◌, ℕ, ◌-◌, ◌<◌, List, [], ◌∷◌, length, get_or, take_all, refl, arith}
+use Rattle.std.proofs.Common.{◌≡◌, sym, subst, ◌-◌, ◌<◌, List, [], ◌∷◌, length, get_or, take_all, refl, arith}
 use Rattle.std.specs.Prelude.{Some, None, slice_get}
 use Rattle.std.proofs.lemmas.Option.{get_or_from_slice_get, slice_get-get_or, slice_get_within}
 use Rattle.std.proofs.Math.Option.{none, some}

@@ -190,7 +190,8 @@ fn with_value(st: State, mark: u8, outside: bool) -> State
     }
 }
 
-// A reading of the chart of its mark: 0 for zero, 1 for span.
+// A reading of the chart of its mark: 0 for zero, 1 for span. The choice by the mark is no helper's: one would test it twice, to take the chart and to put it
+// back.
 fn with_reading(st: State, r: &[u8; 40]) -> State
     requires { (reading_ranged r.now ≡ true) × (reading_refusal (facts_of st) r.now ≡ 0) × Charts-as-Sound st.zero × Charts-as-Sound st.span }
     ensures { result ≡ with_reading st r.now }
@@ -268,7 +269,8 @@ pub fn apply(st: State, r: &[u8; 40]) -> State
     }
 }
 
-// ---- values and readings, which are most records, in the week of the record before: the state is changed in place
+// ---- values and readings, which are most records, in the week of the record before: the state is changed in place, beside `with_value` and `with_reading`,
+// for the reader's speed
 
 // Whether a record is of the kind given and of no later week than the last one.
 pub fn in_week(kind: u8, st: State, r: &[u8; 40]) -> bool

@@ -1,5 +1,5 @@
 -- Rows and their numbers: no two rows have one number, and none has 0, which stands for no refusal.
-use Rattle.std.proofs.Common.{◌≡◌, refl, ap, sym, ◌∙◌, false, ℕ, subst}
+use Rattle.std.proofs.Common.{◌≡◌, refl, ap, sym, ◌∙◌, false, ℕ}
 use Rattle.std.specs.Prelude.{eqb, Result, Ok, Err, IsErrAnd, if◌then◌else◌}
 use Rattle.std.proofs.lemmas.Bool.{false≢true}
 use Rattle.refusals.specs.Rows.{number_of, outcome_of}

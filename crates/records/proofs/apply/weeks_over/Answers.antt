@@ -1,5 +1,4 @@
 -- `apply::weeks_over` meets its contract.
-use Rattle.std.proofs.Common.{◌∙◌}
 use Rattle.records.proofs.ApplyLaws.{more}
 use Rattle.records.proofs.apply.weeks_over.Goals as goal
 
