@@ -1,7 +1,6 @@
 // Bytes from a file or a pipe.
-ghost use Rattle.std.specs.Prelude.{◌≡◌, ◌<◌, length, take, IsSome, IsNone};
+ghost use Rattle.std.specs.Prelude.{◌<◌, ◌≤◌, length, take, IsSome, IsNone};
 ghost use Rattle.std.specs.Io.KnownBytes.{Consumes, IsAtEnd};
-ghost use Rattle.io.specs.Counts.{IsPrefixLen};
 
 use std::io::{Error, Read};
 
@@ -14,7 +13,7 @@ pub struct Filled {
 
 // Fills the buffer. It comes back less than full only where the input ends or a read fails: a pipe may give less than was asked for.
 pub fn fill<R: Read>(input: &mut R, buffer: &mut [u8]) -> Filled
-    ensures in_bounds { IsPrefixLen result.count buffer.new }
+    ensures in_bounds { result.count ≤ length buffer.new }
     ensures bytes { Consumes (R.remaining input.old) (R.remaining input.new) (take result.count buffer.new) }
     ensures end { IsNone result.failure → result.count < length buffer.old → IsAtEnd (R.remaining input.new) }
     ensures failed { IsSome result.failure → result.count < length buffer.old }
