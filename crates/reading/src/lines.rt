@@ -2,29 +2,17 @@
 ghost use Rattle.std.specs.Prelude.{◌≡◌, if◌then◌else◌};
 ghost use Rattle.reading.specs.Lines.{yes_or_no};
 
-use file::Report;
+use file::{Refused, Report};
 use std::fmt;
 
-// Why a block is not taken: the row that refuses it, and the place of the record at fault, if it is a record's row.
-#[derive(Clone, Copy)]
-pub struct Refused {
-    pub row: u32,
-    pub place: Option<u32>,
-}
-
-// A line: a block that was taken, with its number and its record count; a block or a short tail that was refused, with the number expected;
-// or the last one, the report.
+// A line that the reader prints.
 #[derive(Clone, Copy)]
 pub enum Line {
-    Taken {
-        number: u64,
-        count: u8,
-    },
-    Stopped {
-        number: u64,
-        row: u32,
-        place: Option<u32>,
-    },
+    // A block that was taken: its number, and its record count.
+    Taken { number: u64, count: u8 },
+    // A block or a short tail that was refused: the number expected, and why.
+    Stopped { number: u64, refused: Refused },
+    // The last line: the six alarms, and whether the analyser may be used.
     Report(Report),
 }
 
@@ -43,10 +31,13 @@ impl fmt::Display for Line {
     fn fmt<W: fmt::Write>(&self, f: &mut fmt::Formatter<W>) -> fmt::Result {
         match *self {
             Line::Taken { number, count } => writeln!(f, "{number} taken {count}"),
-            Line::Stopped { number, row, place } => match place {
-                Some(place) => writeln!(f, "{number} refused {row} {place}"),
-                None => writeln!(f, "{number} refused {row} -"),
-            },
+            Line::Stopped { number, refused } => {
+                let row = refused.row.number();
+                match refused.place {
+                    Some(place) => writeln!(f, "{number} refused {row} {place}"),
+                    None => writeln!(f, "{number} refused {row} -"),
+                }
+            }
             Line::Report(report) => {
                 let (zero, span) = (report.zero, report.span);
                 writeln!(
