@@ -2,16 +2,24 @@
 ghost use Rattle.std.specs.Prelude.{◌≡◌, if◌then◌else◌};
 ghost use Rattle.reading.specs.Lines.{yes_or_no};
 
-use file::{Refused, Report};
+use file::Report;
+use refusals::Refusal;
 use std::fmt;
 
 // A line that the reader prints.
 #[derive(Clone, Copy)]
 pub enum Line {
     // A block that was taken: its number, and its record count.
-    Taken { number: u64, count: u8 },
-    // A block or a short tail that was refused: the number expected, and why.
-    Stopped { number: u64, refused: Refused },
+    Taken {
+        number: u64,
+        count: u8,
+    },
+    // A block or a short tail that was refused: the number expected, the row, and the place of the record at fault, if it is a record's row.
+    Stopped {
+        number: u64,
+        row: Refusal,
+        place: Option<u8>,
+    },
     // The last line: the six alarms, and whether the analyser may be used.
     Report(Report),
 }
@@ -31,9 +39,9 @@ impl fmt::Display for Line {
     fn fmt<W: fmt::Write>(&self, f: &mut fmt::Formatter<W>) -> fmt::Result {
         match *self {
             Line::Taken { number, count } => writeln!(f, "{number} taken {count}"),
-            Line::Stopped { number, refused } => {
-                let row = refused.row.number();
-                match refused.place {
+            Line::Stopped { number, row, place } => {
+                let row = row.number();
+                match place {
                     Some(place) => writeln!(f, "{number} refused {row} {place}"),
                     None => writeln!(f, "{number} refused {row} -"),
                 }

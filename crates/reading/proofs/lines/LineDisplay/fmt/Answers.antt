@@ -13,14 +13,14 @@ pub returns-in-Some-clause-writes : goal.returns-in-Some-clause-writes
 returns-in-Some-clause-writes g c = λ p ok.
     let n = c.in-Stopped.number in
     let row = c.number-row.result in
-    has_written_of_eq _ _ _ _ _ (stopped_text n row (Some c.in-Some.place) _ (omega arith) (omega arith) (decimal_text c.in-Some.place (omega arith)) ∙ ap (λ (r : ℕ). stopped_line n r (Some c.in-Some.place)) c.number-row.ensures ∙ sym (ap text_of c.in-Stopped.is ∙ ap (stopped_line n (number_of c.in-Stopped.refused.row)) c.in-Some.is))
+    has_written_of_eq _ _ _ _ _ (stopped_text n row (Some c.in-Some.place) _ (omega arith) (omega arith) (decimal_text c.in-Some.place (omega arith)) ∙ ap (λ (r : ℕ). stopped_line n r (Some c.in-Some.place)) c.number-row.ensures ∙ sym (ap text_of c.in-Stopped.is ∙ ap (stopped_line n (number_of c.in-Stopped.row)) c.in-Some.is))
     (c.writeln-in-Some.ensures.writes p ok)
 
 pub returns-in-None-clause-writes : goal.returns-in-None-clause-writes
 returns-in-None-clause-writes g c = λ p ok.
     let n = c.in-Stopped.number in
     let row = c.number-row.result in
-    has_written_of_eq _ _ _ _ _ (stopped_text n row None dash (omega arith) (omega arith) refl ∙ ap (λ (r : ℕ). stopped_line n r None) c.number-row.ensures ∙ sym (ap text_of c.in-Stopped.is ∙ ap (stopped_line n (number_of c.in-Stopped.refused.row)) c.in-None.is)) (c.writeln-in-None.ensures.writes p ok)
+    has_written_of_eq _ _ _ _ _ (stopped_text n row None dash (omega arith) (omega arith) refl ∙ ap (λ (r : ℕ). stopped_line n r None) c.number-row.ensures ∙ sym (ap text_of c.in-Stopped.is ∙ ap (stopped_line n (number_of c.in-Stopped.row)) c.in-None.is)) (c.writeln-in-None.ensures.writes p ok)
 
 pub returns-in-Report-clause-writes : goal.returns-in-Report-clause-writes
 returns-in-Report-clause-writes g c = λ p ok.
