@@ -2,7 +2,8 @@
 use Rattle.std.proofs.Common.{◌≡◌, ap, sym}
 use Rattle.std.specs.Prelude.{Result, Ok, Err}
 use Rattle.refusals.specs.declared.Refusal.{Refusal}
-use Rattle.refusals.proofs.RowLaws.{some_row, number_same}
+use Rattle.refusals.proofs.RowLaws.{number_same}
+pub use Rattle.refusals.proofs.RowLaws.{some_row, passed_on}
 use Rattle.records.specs.State.{Stepped, stepped}
 use Rattle.records.specs.declared.state.State.{State}
 
