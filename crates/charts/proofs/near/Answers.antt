@@ -116,17 +116,8 @@ Next c = let p = after c.before.before in add (W p) One (abs_sfits (rw (up c) (o
 
 -- ---- the needs
 
-pub divide-p-requires : goal.divide-p-requires
-divide-p-requires c = rw ((N c).reads, (D c).reads) c.requires
-
-pub nonzero_rem-p : goal.nonzero_rem-p
-nonzero_rem-p c = div_need (W c.before.before.before) Two two_pos
-
 pub overflow_cast-p : goal.overflow_cast-p
 overflow_cast-p c = let p = after c.before in cast_u_need w64 (R p) (parts p).low (omega (arith, rest-small p, p.before.requires.2))
-
-pub overflow_cast-d : goal.overflow_cast-d
-overflow_cast-d c = let p = after c.before in cast_u_need w64 (D p.before) (ud_le (omega (arith, lt_ud (d-pos p)))) (omega (arith, p.before.requires.2))
 
 pub rounds_up-requires : goal.rounds_up-requires
 rounds_up-requires c = let p = after c.before in omega (arith, cast_u (R p), cast_u (D p.before), rest-small p)

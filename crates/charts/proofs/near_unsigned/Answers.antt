@@ -27,9 +27,6 @@ d-pos c = ud_lt (omega (arith, c.requires))
 told : (c : At-After-rounds_up) → let a = c.before.args in c.rounds_up.result ≡ rounds_up a.edition (odd (pos (a.n / a.d))) (a.n % a.d) a.d
 told c = let a = c.before.args in rw (sym (odd_unsigned (a.n / a.d))) c.rounds_up.ensures
 
-pub rounds_up-requires : goal.rounds_up-requires
-rounds_up-requires c = below c
-
 pub overflow_add-result : goal.overflow_add-result
 overflow_add-result c =
     let s = c.before.before in
