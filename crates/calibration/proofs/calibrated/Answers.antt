@@ -52,15 +52,6 @@ Z c =
     let s = start₂ c.before in
     cast w32 (Y c) (rw (is c) (abs_sfits (omega (arith, calibrated_bound s.args.edition s.args.l s.args.x s.requires.0 s.requires.1))))
 
-pub overflow_cast-l : goal.overflow_cast-l
-overflow_cast-l c = wide_need (between_fits tt (start c.before).requires.0.slope)
-
-pub overflow_cast-x : goal.overflow_cast-x
-overflow_cast-x c = wide_need (start c.before).ranges.x
-
-pub overflow_mul-l : goal.overflow_mul-l
-overflow_mul-l c = mul_need (B (start c.before)) (X (start c.before)) (BX (start c.before)).fit
-
 pub overflow_add-l : goal.overflow_add-l
 overflow_add-l c = add_need (A (start₂ c)) (BX (start₂ c)) (S (start₂ c)).fit
 

@@ -17,18 +17,6 @@ At-After-struct_told-1 = lts.After-struct_told tie.the-claims reads.Pre reads.Po
 fits : (c : At-After-struct_told-1) → let k = c.before.before.args.k in SFits w32 k.temperature × SFits w32 k.pressure × SFits w32 k.water × SFits w32 k.oxygen
 fits c = search rules
 
-pub overflow_cast-k : goal.overflow_cast-k
-overflow_cast-k c = wide_need (fits c.before).0
-
-pub overflow_cast-k-2 : goal.overflow_cast-k-2
-overflow_cast-k-2 c = wide_need (fits c.before.before.before.before).1
-
-pub overflow_cast-k-3 : goal.overflow_cast-k-3
-overflow_cast-k-3 c = wide_need (fits c.before.before.before.before.before.before.before).2
-
-pub overflow_cast-k-4 : goal.overflow_cast-k-4
-overflow_cast-k-4 c = wide_need (fits c.before.before.before.before.before.before.before.before.before).3
-
 pub returns : goal.returns
 unfolding conditions_ranged_of
 returns c =

@@ -25,24 +25,6 @@ module _ (c : After-t_factor-t) where
   rest-small : c.t_factor-t.result * c.t_factor-t.result * (c.before.args.q % 1000000) ≤ 9000000000000
   rest-small = mul-le-mul {n₂ = 9000000} {m₂ = 1000000} t-small (omega arith)
 
-pub overflow_mul-tt : goal.overflow_mul-tt
-overflow_mul-tt c = omega (arith, t-small c)
-
-pub overflow_mul-result : goal.overflow_mul-result
-overflow_mul-result c = omega (arith, l-small c.before)
-
-pub overflow_mul-result-2 : goal.overflow_mul-result-2
-overflow_mul-result-2 c = omega (arith, left-small c.before)
-
-pub overflow_mul-result-3 : goal.overflow_mul-result-3
-overflow_mul-result-3 c = omega (arith, right-small c)
-
-pub overflow_mul-result-4 : goal.overflow_mul-result-4
-overflow_mul-result-4 c = omega (arith, rest-small c)
-
-pub overflow_add-result : goal.overflow_add-result
-overflow_add-result c = omega (arith, right-small c, rest-small c)
-
 pub returns : goal.returns
 returns c =
     let a = c.before.args in

@@ -42,15 +42,6 @@ module _ (c : Start) where
 abbrev start : After-struct_told-2-1 → Start
 start c = c.before.before.before.before
 
-pub overflow_mul-result : goal.overflow_mul-result
-overflow_mul-result c = let s = c.before.before.before in mul_need (N s) (Q s) (NQ s).fit
-
-pub overflow_mul-result-2 : goal.overflow_mul-result-2
-overflow_mul-result-2 c = let s = start c in mul_need (S s) (S s) (SS s).fit
-
-pub overflow_sub-result : goal.overflow_sub-result
-overflow_sub-result c = let s = start c in sub_need (NQ s) (SS s) (D s).fit
-
 pub overflow_cast-result-2 : goal.overflow_cast-result-2
 overflow_cast-result-2 c = let s = start c in cast_u_need w64 (D s) s.requires.3 (omega (arith, small s))
 

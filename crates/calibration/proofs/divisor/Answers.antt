@@ -46,12 +46,6 @@ module _ (c : Start) where
       let U = c.requires.0 in
       sub NXX P (abs_sfits (omega (arith, apart (product_between (n_ranged U) (xx_ranged U)) (product_between (x_ranged U) (x_ranged U)))))
 
-pub overflow_cast-result-then-flat : goal.overflow_cast-result-then-flat
-overflow_cast-result-then-flat c = wide_need c.before.before.ranges.z
-
-pub overflow_mul-result : goal.overflow_mul-result
-overflow_mul-result c = let s = c.before.before in mul_need (N s) (Z s) (NZ s).fit
-
 pub overflow_sub-result : goal.overflow_sub-result
 overflow_sub-result c = let s = c.before.before.before.before in sub_need (X s) (NZ s) (D₁ s).fit
 

@@ -73,15 +73,6 @@ module _ (c : Start) where
 abbrev start : At-After-struct_told-2-1 → Start
 start c = c.before.before.before.before.before
 
-pub overflow_cast-m : goal.overflow_cast-m
-overflow_cast-m c = wide_need c.ranges.b
-
-pub overflow_cast-result : goal.overflow_cast-result
-overflow_cast-result c = wide_need c.before.ranges.z
-
-pub overflow_mul-result : goal.overflow_mul-result
-overflow_mul-result c = let s = c.before in mul_need (B s) (Z s) (BZ s).fit
-
 pub overflow_sub-result : goal.overflow_sub-result
 overflow_sub-result c = let s = c.before in sub_need Zero (BZ s) (A₁ s).fit
 
@@ -91,9 +82,6 @@ returns-then-flat c =
     let s = c.before in
     let a = s.args in
     (A₁ s).reads ∙ zero_minus (BZ s).num ∙ sym (ap (λ (f : Bool). intercept_of a.edition f a.u a.z a.b) c.if-flat.true)
-
-pub overflow_mul-u : goal.overflow_mul-u
-overflow_mul-u c = let s = c.before.before.before.before in mul_need K (Y s) (KY s).fit
 
 pub overflow_mul-m : goal.overflow_mul-m
 overflow_mul-m c = let s = start c.before in mul_need (B s) (X s) (BX s).fit

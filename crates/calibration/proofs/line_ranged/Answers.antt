@@ -20,9 +20,6 @@ At-After-struct_told-1 = lts.After-struct_told tie.the-claims reads.Pre reads.Po
 fits : (c : At-After-struct_told-1) → let l = c.before.before.args.l in SFits w32 l.slope × SFits w64 l.intercept
 fits c = search rules
 
-pub overflow_cast-l : goal.overflow_cast-l
-overflow_cast-l c = wide_need (fits c.before).0
-
 pub returns : goal.returns
 unfolding line_ranged_of
 returns c =

@@ -94,26 +94,8 @@ start₅ c = start₄ c.before.before
 abbrev start₆ : After-struct_told-6-1 → Start
 start₆ c = start₅ c.before.before
 
-pub overflow_cast-x : goal.overflow_cast-x
-overflow_cast-x c = wide_need (between_fits tt c.requires.2.signal)
-
-pub overflow_cast-y : goal.overflow_cast-y
-overflow_cast-y c = wide_need (between_fits tt (start₂ c).requires.2.srm)
-
-pub overflow_add-result-2 : goal.overflow_add-result-2
-overflow_add-result-2 c = let s = start₃ c.before in add_need (Ux s) (X s) (Nx s).fit
-
-pub overflow_add-result-3 : goal.overflow_add-result-3
-overflow_add-result-3 c = let s = start₄ c.before in add_need (Uy s) (Y s) (Ny s).fit
-
-pub overflow_mul-result : goal.overflow_mul-result
-overflow_mul-result c = let s = start₄ c.before in mul_need (X s) (Y s) (XY s).fit
-
 pub overflow_add-result-4 : goal.overflow_add-result-4
 overflow_add-result-4 c = let s = start₅ c.before in add_need (Uxy s) (XY s) (Nxy s).fit
-
-pub overflow_mul-result-2 : goal.overflow_mul-result-2
-overflow_mul-result-2 c = let s = start₅ c.before in mul_need (X s) (X s) (XX s).fit
 
 pub overflow_add-result-5 : goal.overflow_add-result-5
 overflow_add-result-5 c = let s = start₆ c in add_need (Uxx s) (XX s) (Nxx s).fit

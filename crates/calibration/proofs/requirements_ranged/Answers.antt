@@ -17,15 +17,6 @@ At-After-struct_told-1 = lts.After-struct_told tie.the-claims reads.Pre reads.Po
 fits : (c : At-After-struct_told-1) → let q = c.before.before.args.q in SFits w32 q.limit × SFits w32 q.uncertainty × SFits w32 q.oxygen
 fits c = search rules
 
-pub overflow_cast-q : goal.overflow_cast-q
-overflow_cast-q c = wide_need (fits c.before).0
-
-pub overflow_cast-q-2 : goal.overflow_cast-q-2
-overflow_cast-q-2 c = wide_need (fits c.before.before.before.before).1
-
-pub overflow_cast-q-3 : goal.overflow_cast-q-3
-overflow_cast-q-3 c = wide_need (fits c.before.before.before.before.before.before).2
-
 pub returns : goal.returns
 unfolding requirements_ranged_of
 returns c =

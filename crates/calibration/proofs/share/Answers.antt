@@ -38,15 +38,6 @@ fits c =
 abbrev R : After-near → Loc w64
 R c = arg c.near.result (record { sfits = c.near.type_inv })
 
-pub overflow_cast-v : goal.overflow_cast-v
-overflow_cast-v c = wide_need c.ranges.v
-
-pub overflow_mul-percent : goal.overflow_mul-percent
-overflow_mul-percent c = mul_need (P c) (X c) (PX c).fit
-
-pub near-requires : goal.near-requires
-near-requires c = rw (PX c).reads (omega (arith, small c), omega ints, omega arith)
-
 pub overflow_cast-result : goal.overflow_cast-result
 overflow_cast-result c = cast_need w32 (R c) (fits c)
 

@@ -50,9 +50,6 @@ module _ (c : Start) where
   d-pos : pos 0 <ℤ D.num
   d-pos = c.requires.1
 
-pub divide-p-requires : goal.divide-p-requires
-divide-p-requires c = rw ((M c).reads, (D c).reads) (omega (arith, c.requires.0), c.requires.1, omega (arith, c.requires.2))
-
 -- ---- the whole part and the rest
 module _ (c : After-divide-p) where
   abbrev e : ℕ
@@ -108,14 +105,6 @@ overflow_cast-p c = let p = after c.before in cast_u_need w64 (R p) (parts p).lo
 pub overflow_mul-p : goal.overflow_mul-p
 overflow_mul-p c = let p = after c.before in omega (arith, cast_u (R p), rest-small p)
 
-pub overflow_cast-divisor : goal.overflow_cast-divisor
-overflow_cast-divisor c =
-    let s = (after c.before).before in
-    cast_u_need w64 (D s) (ud_le (omega (arith, lt_ud (d-pos s)))) (omega (arith, s.requires.2))
-
-pub near_unsigned-part-requires : goal.near_unsigned-part-requires
-near_unsigned-part-requires c = let s = (after c.before).before in omega (arith, cast_u (D s), lt_ud (d-pos s), abs_ud (D s).num)
-
 -- neither is below 0, so that their sizes are themselves
 sized : {z : ℤ} → pos 0 ≤ℤ z → pos (nat_abs z) ≡ z
 sized {z} h = ud_eq (omega (arith, le_ud h, abs_ud z, one_zero z))
@@ -160,9 +149,6 @@ module _ (c : After-struct_told-3-1) where
   b-is =
       ap (λ (z : ℤ). pos 100000 *ℤ whole from +ℤ z) (part-is near)
       ∙ sym (slope_parts (e from) (rise from) (divisor from) (d-pos from.before) (parts from))
-
-pub overflow_mul-b : goal.overflow_mul-b
-overflow_mul-b c = mul_need Hundred-thousand (W (from c)) (K c).fit
 
 pub overflow_cast-b : goal.overflow_cast-b
 overflow_cast-b c = (P c).fit

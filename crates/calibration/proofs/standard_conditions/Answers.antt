@@ -171,48 +171,11 @@ O c = arg c.times-o.result (record { sfits = c.times-o.type_inv })
 abbrev Y : After-times-o → Loc w32
 Y c = cast w32 (O c) (abs_sfits (omega (arith, (o c).sized.size)))
 
--- ---- the needs
-pub overflow_cast-v : goal.overflow_cast-v
-overflow_cast-v c = wide_need (v-fits c.before.before)
-
-pub overflow_cast-k : goal.overflow_cast-k
-overflow_cast-k c = wide_need (between_fits tt (C (start₁ c.before)).temperature)
-
-pub overflow_add-k : goal.overflow_add-k
-overflow_add-k c = let s = start₁ c.before in add_need D₁ (T₀ s) (N₁ s).fit
-
-pub times-t-requires : goal.times-t-requires
-times-t-requires c = asks (call₁ c.before) (omega arith)
-
-pub overflow_cast-k-2 : goal.overflow_cast-k-2
-overflow_cast-k-2 c = wide_need (between_fits tt (C (start₂ c.before)).pressure)
-
-pub overflow_add-k-2 : goal.overflow_add-k-2
-overflow_add-k-2 c = let s = start₂ c.before in add_need N₂ (P₀ s) (D₂ s).fit
-
 pub times-p-requires : goal.times-p-requires
 times-p-requires c = asks (call₂ c.before) (omega arith)
 
-pub overflow_cast-k-3 : goal.overflow_cast-k-3
-overflow_cast-k-3 c = wide_need (between_fits tt (C (start₃ c.before)).water)
-
-pub overflow_sub-k : goal.overflow_sub-k
-overflow_sub-k c = let s = start₃ c.before in sub_need N₃ (H₀ s) (D₃ s).fit
-
 pub times-h-requires : goal.times-h-requires
 times-h-requires c = asks (call₃ c.before) (omega arith)
-
-pub overflow_cast-reference : goal.overflow_cast-reference
-overflow_cast-reference c = wide_need (start₄ c.before).ranges.reference
-
-pub overflow_sub-reference : goal.overflow_sub-reference
-overflow_sub-reference c = let s = start₄ c.before in sub_need Air (R₀ s) (N₄ s).fit
-
-pub overflow_cast-k-4 : goal.overflow_cast-k-4
-overflow_cast-k-4 c = wide_need (between_fits tt (C (start₄ c.before.before)).oxygen)
-
-pub overflow_sub-k-2 : goal.overflow_sub-k-2
-overflow_sub-k-2 c = let s = start₄ c.before.before in sub_need Air (O₀ s) (D₄ s).fit
 
 pub times-o-requires : goal.times-o-requires
 times-o-requires c = asks (call₄ c) (omega arith)

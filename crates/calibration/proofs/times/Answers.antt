@@ -27,11 +27,5 @@ module _ (c : Start) where
   abbrev P : Loc w64
   P = mul W N (abs_sfits (omega (arith, small)))
 
-pub overflow_mul-v : goal.overflow_mul-v
-overflow_mul-v c = mul_need (W c) (N c) (P c).fit
-
-pub near-requires : goal.near-requires
-near-requires c = rw ((P c).reads, (D c).reads) (omega (arith, small c), c.requires.2, omega arith)
-
 pub returns : goal.returns
 returns c = to_z-of_z {w = w64} (record { sfits = c.near.type_inv }) ∙ c.near.ensures ∙ rw ((P c.before).reads, (D c.before).reads)

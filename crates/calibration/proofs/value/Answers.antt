@@ -8,8 +8,3 @@ standard_conditions-requires c =
     let s = c.before in
     let a = s.args in
     (rw (to_z-of_z s.ranges.reference) s.requires.0, s.requires.2, rw (c.calibrated.ensures, to_z-of_z s.ranges.x) (calibrated_bound a.edition a.l a.x s.requires.1 s.requires.3))
-
-pub returns : goal.returns
-returns c =
-    let s = c.before.before in
-    rw (c.standard_conditions.ensures, to_z-of_z s.ranges.reference, c.before.calibrated.ensures, to_z-of_z s.ranges.x)

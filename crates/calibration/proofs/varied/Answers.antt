@@ -19,15 +19,6 @@ module _ (c : Start) where
   right-small : c.args.m * (c.args.sigma * c.args.sigma) * (c.args.k * c.args.k) ≤ 8700000000000000000
   right-small = mul-le-mul {n₂ = 87000000000} {m₂ = 100000000} m-small k-small
 
-pub overflow_mul-result : goal.overflow_mul-result
-overflow_mul-result c = omega (arith, s-small c)
-
-pub overflow_mul-result-2 : goal.overflow_mul-result-2
-overflow_mul-result-2 c = omega (arith, m-small c)
-
-pub overflow_mul-result-3 : goal.overflow_mul-result-3
-overflow_mul-result-3 c = omega (arith, k-small c)
-
 pub overflow_mul-result-4 : goal.overflow_mul-result-4
 overflow_mul-result-4 c = omega (arith, right-small c)
 

@@ -12,11 +12,3 @@ value-requires c =
     let Q = required c.args.self.basis.requirements c.args.self.required in
     let P = c.requires.1 in
     (rw (oxygen_reads Q) Q.oxygen, c.requires.0, P.conditions, rw (to_z-of_z {w = w32} (between_fits tt P.signal)) P.signal)
-
-pub returns : goal.returns
-returns c =
-    let Q = required c.args.self.basis.requirements c.args.self.required in
-    let P = c.requires.1 in
-    c.value.ensures
-    ∙ ap (λ (o : ℤ). value_of c.args.self.basis.edition o c.args.l c.args.p.conditions (to_z w32 (of_z w32 c.args.p.signal))) (oxygen_reads Q)
-    ∙ ap (λ (x : ℤ). value_of c.args.self.basis.edition c.args.self.basis.requirements.oxygen c.args.l c.args.p.conditions x) (to_z-of_z {w = w32} (between_fits tt P.signal))

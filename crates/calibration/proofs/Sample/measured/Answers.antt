@@ -10,8 +10,3 @@ pub standard_conditions-requires : goal.standard_conditions-requires
 standard_conditions-requires c =
     let Q = required c.args.self.basis.requirements c.args.self.required in
     (rw (oxygen_reads Q) Q.oxygen, c.requires.conditions, omega (arith, between_abs c.requires.srm))
-
-pub returns : goal.returns
-returns c =
-    let Q = required c.args.self.basis.requirements c.args.self.required in
-    c.standard_conditions.ensures ∙ ap (λ (o : ℤ). standard_of c.args.self.basis.edition o c.args.p.conditions c.args.p.srm) (oxygen_reads Q)
