@@ -7,3 +7,6 @@ pub mod StandardBound
 pub mod ResidualLaws
 pub mod LentListLaws
 pub mod SumLaws
+pub mod OrderLaws
+pub mod SampleLaws
+pub mod OutcomeLaws

@@ -72,6 +72,14 @@ module _ (n : ℕ) (sum : ℤ) (q σ : ℕ) where
       rw (e, lt-leb (nat_abs sum - n * σ) 0 (omega arith))
 
 -- ---- the code's B: none exactly where B is outside its range
+refused : (b : ℤ) (t : Bool) → (if t then Some b else None) ≡ None → t ≡ false
+refused b true e = cc
+refused b false e = refl
+
+taken : (b m : ℤ) (t : Bool) → (if t then Some b else None) ≡ Some m → (t ≡ true) × (m ≡ b)
+taken b m true e = (refl, cc)
+taken b m false e = cc
+
 module _ (edition : ℕ) (rise divisor : ℤ) where
   abbrev b : ℤ
   b = near_of edition (pos 100000 *ℤ rise) divisor
@@ -85,23 +93,14 @@ module _ (edition : ℕ) (rise divisor : ℤ) where
   unfolding slope_code
   slope_out t = if_no _ _ _ t
 
--- and back
-refused : (b : ℤ) (t : Bool) → (if t then Some b else None) ≡ None → t ≡ false
-refused b true e = cc
-refused b false e = refl
-
-taken : (b m : ℤ) (t : Bool) → (if t then Some b else None) ≡ Some m → (t ≡ true) × (m ≡ b)
-taken b m true e = (refl, cc)
-taken b m false e = cc
-
-module _ (edition : ℕ) (rise divisor : ℤ) where
-  pub slope_refused : slope_code edition rise divisor ≡ None → slope_ranged_of (b edition rise divisor) ≡ false
+  -- and back
+  pub slope_refused : slope_code edition rise divisor ≡ None → slope_ranged_of b ≡ false
   unfolding slope_code
-  slope_refused e = refused (b edition rise divisor) (slope_ranged_of (b edition rise divisor)) e
+  slope_refused e = refused b (slope_ranged_of b) e
 
-  pub slope_taken : {m : ℤ} → slope_code edition rise divisor ≡ Some m → (slope_ranged_of (b edition rise divisor) ≡ true) × (m ≡ b edition rise divisor)
+  pub slope_taken : {m : ℤ} → slope_code edition rise divisor ≡ Some m → (slope_ranged_of b ≡ true) × (m ≡ b)
   unfolding slope_code
-  slope_taken {m} e = taken (b edition rise divisor) m (slope_ranged_of (b edition rise divisor)) e
+  slope_taken {m} e = taken b m (slope_ranged_of b) e
 
 -- ---- B from the whole part k of rise / divisor, and its rest
 module _ (edition : ℕ) (rise divisor : ℤ) {k rest : ℤ} (h : pos 0 <ℤ divisor) (D : Divided rise divisor k rest) where

@@ -14,15 +14,15 @@ ghost use Rattle.calibration.specs.CodeLaws.{SumsRanged, dispersion_of, slope_co
 use refusals::Refusal;
 
 // A concentration in analyser conditions.
-#[derive(Clone, Copy)]
+#[derive(Clone, Copy, Default, PartialEq, Eq, PartialOrd, Ord)]
 pub struct Actual(pub i32);
 
 // A concentration in standard conditions. Of an `Actual`, only `standard_conditions` makes one.
-#[derive(Clone, Copy)]
+#[derive(Clone, Copy, PartialEq, Eq, PartialOrd, Ord)]
 pub struct Standard(pub i32);
 
 // Paper 01's t, p, h and o.
-#[derive(Clone, Copy)]
+#[derive(Clone, Copy, Default)]
 pub struct Conditions {
     pub temperature: i32,
     pub pressure: i32,
@@ -31,7 +31,7 @@ pub struct Conditions {
 }
 
 // What the fit takes of a pair: the analyser's signal x, the reference method's value y, and the conditions.
-#[derive(Clone, Copy)]
+#[derive(Clone, Copy, Default)]
 pub struct Pair {
     pub signal: i32,
     pub srm: Actual,
@@ -39,7 +39,7 @@ pub struct Pair {
 }
 
 // The limit E, the required uncertainty σ and the reference oxygen.
-#[derive(Clone, Copy)]
+#[derive(Clone, Copy, Default)]
 pub struct Requirements {
     pub limit: i32,
     pub uncertainty: i32,
@@ -53,14 +53,24 @@ pub struct Basis {
     pub requirements: Requirements,
 }
 
-// A calibration function: slope B and intercept A.
+// Pairs with what they are worked out by: at most thirty, and all in range.
+#[derive(Clone, Copy)]
+struct Sample<'a> {
+    pairs: &'a [Pair],
+    basis: Basis,
+    ghost few: { length pairs.now ≤ 30 },
+    ghost ranged: { list_all pair_ranged_of pairs.now ≡ true },
+    ghost required: { requirements_ranged_of basis.requirements ≡ true },
+}
+
+// A calibration function: slope B and intercept A. Its range is no ghost field: `line_ranged` asks it of any line, and the definitions make lines of any.
 #[derive(Clone, Copy)]
 pub struct Line {
     pub slope: i32,
     pub intercept: i64,
 }
 
-// N, Σx, Σy, Σxy and Σx².
+// N, Σx, Σy, Σxy and Σx². Their range is asked by a clause where it is needed, and is no ghost field: the definitions sum pairs of any range.
 #[derive(Clone, Copy, Default)]
 pub struct Sums {
     pub n: u32,
@@ -106,7 +116,7 @@ pub struct Verdicts {
 pub fn between(low: i64, high: i64, x: i64) -> bool
     ensures { result ≡ between_of low high x }
 {
-    (low <= x) & (x <= high)
+    (low..=high).contains(&x)
 }
 
 pub fn conditions_ranged(k: Conditions) -> bool
@@ -121,8 +131,9 @@ pub fn conditions_ranged(k: Conditions) -> bool
 pub fn pair_ranged(p: Pair) -> bool
     ensures { result ≡ pair_ranged_of p }
 {
-    let k = p.conditions;
-    between(0, 400000, p.signal as i64) & between(0, 400000, p.srm.0 as i64) & conditions_ranged(k)
+    between(0, 400000, p.signal as i64)
+        & between(0, 400000, p.srm.0 as i64)
+        & conditions_ranged(p.conditions)
 }
 
 pub fn requirements_ranged(q: Requirements) -> bool
@@ -183,22 +194,6 @@ pub fn value(edition: u8, reference: i32, l: Line, k: Conditions, x: i32) -> Sta
     standard_conditions(edition, reference, k, calibrated(edition, l, x))
 }
 
-// y' of a pair.
-fn measured(b: Basis, p: Pair) -> Standard
-    requires { RequirementsRanged b.requirements × PairRanged p }
-    ensures { result ≡ measured_of b.edition b.requirements.oxygen p }
-{
-    standard_conditions(b.edition, b.requirements.oxygen, p.conditions, p.srm)
-}
-
-// c of a pair.
-fn fitted_value(b: Basis, l: Line, p: Pair) -> Standard
-    requires { RequirementsRanged b.requirements × LineRanged l × PairRanged p }
-    ensures { result ≡ c_of b.edition b.requirements.oxygen l p }
-{
-    value(b.edition, b.requirements.oxygen, l, p.conditions, p.signal)
-}
-
 // ---- sums over the pairs
 
 fn plus(u: Sums, p: Pair) -> Sums
@@ -216,60 +211,13 @@ fn plus(u: Sums, p: Pair) -> Sums
     }
 }
 
-fn pair_sums(pairs: &[Pair]) -> Sums
-    requires { (length pairs.now ≤ 30) × AllRanged pairs.now }
-    ensures { result ≡ sums_of pairs.now }
-{
-    let mut u = Sums::default();
-    for p in pairs {
-        u = plus(u, *p);
-    }
-    u
-}
-
-fn lower(a: Standard, b: Standard) -> Standard
-    ensures { result ≡ lower_of a b }
-{
-    if b.0 < a.0 {
-        return b;
-    }
-    a
-}
-
-fn higher(a: Standard, b: Standard) -> Standard
-    ensures { result ≡ higher_of a b }
-{
-    if a.0 < b.0 {
-        return b;
-    }
-    a
-}
-
 fn widened(s: Span, v: Standard) -> Span
     ensures { result ≡ widened_of s v }
 {
-    let low = s.low;
-    let high = s.high;
     Span {
-        low: lower(low, v),
-        high: higher(high, v),
+        low: s.low.min(v),
+        high: s.high.max(v),
     }
-}
-
-// Whether the y' differ by less than 15 % of the limit.
-fn is_flat(pairs: &[Pair], b: Basis) -> bool
-    requires { (0 < length pairs.now) × AllRanged pairs.now × RequirementsRanged b.requirements }
-    ensures { result ≡ flat_of b.edition b.requirements pairs.now }
-{
-    let first = measured(b, pairs[0]);
-    let mut s = Span {
-        low: first,
-        high: first,
-    };
-    for p in pairs {
-        s = widened(s, measured(b, *p));
-    }
-    100 * (s.high.0 as i64 - s.low.0 as i64) < 15 * (b.requirements.limit as i64)
 }
 
 // ---- the function
@@ -332,46 +280,17 @@ fn far(v: Standard) -> bool
     !between(-10000000, 10000000, v.0 as i64)
 }
 
-// Whether some y' or c is beyond ±10,000,000.
-fn beyond(pairs: &[Pair], b: Basis, l: Line) -> bool
-    requires { AllRanged pairs.now × RequirementsRanged b.requirements × LineRanged l }
-    ensures { result ≡ some_beyond b.edition b.requirements.oxygen l pairs.now }
-{
-    for p in pairs {
-        if far(measured(b, *p)) | far(fitted_value(b, l, *p)) {
-            return true;
-        }
-    }
-    false
-}
-
 // One pair more in the residuals.
 fn with_residual(r: Residuals, y: Standard, c: Standard) -> Residuals
     requires { (nat_abs r.sum ≤ 600000000) × (nat_abs r.squares ≤ 12000000000000000) × (far_of y ≡ false) × (far_of c ≡ false) }
     ensures { result ≡ with_residual_of r y c }
 {
     let d = y.0 as i64 - c.0 as i64;
-    let most = r.most;
     Residuals {
-        most: higher(most, c),
+        most: r.most.max(c),
         sum: r.sum + d,
         squares: r.squares + d * d,
     }
-}
-
-fn pair_residuals(pairs: &[Pair], b: Basis, l: Line) -> Residuals
-    requires { (0 < length pairs.now) × (length pairs.now ≤ 30) × AllRanged pairs.now × RequirementsRanged b.requirements × LineRanged l × (some_beyond b.edition b.requirements.oxygen l pairs.now ≡ false) }
-    ensures { result ≡ residuals_of b.edition b.requirements.oxygen l pairs.now }
-{
-    let mut r = Residuals {
-        most: fitted_value(b, l, pairs[0]),
-        sum: 0,
-        squares: 0,
-    };
-    for p in pairs {
-        r = with_residual(r, measured(b, *p), fitted_value(b, l, *p));
-    }
-    r
 }
 
 // Q = NΣD² - (ΣD)², which is not negative.
@@ -399,7 +318,7 @@ fn top(edition: u8, limit: i32, most: Standard) -> Standard
     if edition != 2 {
         return first;
     }
-    higher(first, share(edition, 20, limit))
+    first.max(share(edition, 20, limit))
 }
 
 // ---- verdicts
@@ -407,14 +326,16 @@ fn top(edition: u8, limit: i32, most: Standard) -> Standard
 pub fn count_fits(n: u32) -> bool
     ensures { result ≡ count_fits n }
 {
-    ((15 <= n) & (n <= 20)) | ((n == 25) | (n == 30))
+    matches!(n, 15..=20 | 25 | 30)
 }
 
 fn annual_count_fits(n: u32) -> bool
     ensures { result ≡ annual_count_fits n }
 {
-    (5 <= n) & (n <= 8)
+    matches!(n, 5..=8)
 }
+
+// Of the factors each has its own table, and so its own function: data, with 0 where there is no row, as in the definitions. The counts are tested before.
 
 // The factor k of a calibration, in ten-thousandths.
 fn k_factor(n: u32) -> u32
@@ -479,22 +400,12 @@ fn covered(n: u32, l: u64, q: u64) -> bool
     ((n - 1) as u64) * (l * l) <= tt * (q / 1000000) + tt * (q % 1000000) / 1000000
 }
 
-fn magnitude(x: i64) -> u64
-    requires { nat_abs x ≤ 600000000 }
-    ensures { result ≡ nat_abs x }
-{
-    if x < 0 {
-        return (-x) as u64;
-    }
-    x as u64
-}
-
 // The function test: |ΣD| is at most Nσ, or what it exceeds that by is covered.
 fn function_holds(n: u32, sum: i64, q: u64, sigma: u32) -> bool
     requires { (n ≤ 8) × (0 < n) × (nat_abs sum ≤ 600000000) × (q ≤ 1000000000000000000) × (sigma ≤ 10000) }
     ensures { result ≡ function_of n sum (pos q) (pos sigma) }
 {
-    let a = magnitude(sum);
+    let a = sum.unsigned_abs();
     let b = (n as u64) * (sigma as u64);
     if a <= b {
         return true;
@@ -504,53 +415,121 @@ fn function_holds(n: u32, sum: i64, q: u64, sigma: u32) -> bool
 
 // ---- outcomes
 
-// A function stands: refused where a figure is far out, or the figures and the verdict.
-fn line_fits(pairs: &[Pair], b: Basis, l: Line) -> Result<Figures, Refusal>
-    requires { (0 < length pairs.now) × (length pairs.now ≤ 30) × AllRanged pairs.now × RequirementsRanged b.requirements × LineRanged l }
-    ensures { fitted result ≡ line_fits b.edition b.requirements pairs.now l }
-{
-    if beyond(pairs, b, l) {
-        return Err(Refusal::Beyond);
+impl<'a> Sample<'a> {
+    // y' of a pair.
+    fn measured(self, p: Pair) -> Standard
+        requires { PairRanged p }
+        ensures { result ≡ measured_of self.entry.basis.edition self.entry.basis.requirements.oxygen p }
+    {
+        let b = self.basis;
+        standard_conditions(b.edition, b.requirements.oxygen, p.conditions, p.srm)
     }
-    let r = pair_residuals(pairs, b, l);
-    let n = pairs.len() as u32;
-    let q = b.requirements;
-    Ok(Figures {
-        passed: varied(
-            100000000,
-            n * (n - 1),
-            q.uncertainty as u32,
-            k_factor(n),
-            dispersion(n, r),
-        ),
-        line: l,
-        top: top(b.edition, q.limit, r.most),
-        count: n,
-    })
-}
 
-// From the sums on: the divisor, the slope, then the function.
-fn fit_from(pairs: &[Pair], b: Basis, z: i32, u: Sums) -> Result<Figures, Refusal>
-    requires { (0 < length pairs.now) × (length pairs.now ≤ 30) × AllRanged pairs.now × RequirementsRanged b.requirements × ZRanged z × SumsRanged u × (0 < u.n) }
-    ensures { fitted result ≡ fit_from b.edition b.requirements z pairs.now u }
-{
-    let flat = is_flat(pairs, b);
-    let d = divisor(flat, u, z);
-    if d <= 0 {
-        return Err(Refusal::Divisor);
+    // c of a pair.
+    fn fitted_value(self, l: Line, p: Pair) -> Standard
+        requires { LineRanged l × PairRanged p }
+        ensures { result ≡ c_of self.entry.basis.edition self.entry.basis.requirements.oxygen l p }
+    {
+        let b = self.basis;
+        value(b.edition, b.requirements.oxygen, l, p.conditions, p.signal)
     }
-    let Some(m) = slope(b.edition, rise(flat, u), d) else {
-        return Err(Refusal::Slope);
-    };
-    let a = intercept(b.edition, flat, u, z, m);
-    line_fits(
-        pairs,
-        b,
-        Line {
-            slope: m,
-            intercept: a,
-        },
-    )
+
+    fn sums(self) -> Sums
+        ensures { result ≡ sums_of self.entry.pairs.now }
+    {
+        let mut u = Sums::default();
+        for p in self.pairs {
+            u = plus(u, *p);
+        }
+        u
+    }
+
+    // Whether the y' differ by less than 15 % of the limit.
+    fn is_flat(self) -> bool
+        requires { 0 < length self.pairs.now }
+        ensures { result ≡ flat_of self.entry.basis.edition self.entry.basis.requirements self.entry.pairs.now }
+    {
+        let first = self.measured(self.pairs[0]);
+        let mut s = Span {
+            low: first,
+            high: first,
+        };
+        for p in self.pairs {
+            s = widened(s, self.measured(*p));
+        }
+        100 * (s.high.0 as i64 - s.low.0 as i64) < 15 * (self.basis.requirements.limit as i64)
+    }
+
+    // Whether some y' or c is beyond ±10,000,000.
+    fn beyond(self, l: Line) -> bool
+        requires { LineRanged l }
+        ensures { result ≡ some_beyond self.entry.basis.edition self.entry.basis.requirements.oxygen l self.entry.pairs.now }
+    {
+        for p in self.pairs {
+            if far(self.measured(*p)) | far(self.fitted_value(l, *p)) {
+                return true;
+            }
+        }
+        false
+    }
+
+    fn residuals(self, l: Line) -> Residuals
+        requires { (0 < length self.pairs.now) × LineRanged l × (some_beyond self.basis.edition self.basis.requirements.oxygen l self.pairs.now ≡ false) }
+        ensures { result ≡ residuals_of self.entry.basis.edition self.entry.basis.requirements.oxygen l self.entry.pairs.now }
+    {
+        let mut r = Residuals {
+            most: self.fitted_value(l, self.pairs[0]),
+            sum: 0,
+            squares: 0,
+        };
+        for p in self.pairs {
+            r = with_residual(r, self.measured(*p), self.fitted_value(l, *p));
+        }
+        r
+    }
+
+    // A function stands: refused where a figure is far out, or the figures and the verdict.
+    fn line_fits(self, l: Line) -> Result<Figures, Refusal>
+        requires { (0 < length self.pairs.now) × LineRanged l }
+        ensures { fitted result ≡ line_fits self.entry.basis.edition self.entry.basis.requirements self.entry.pairs.now l }
+    {
+        if self.beyond(l) {
+            return Err(Refusal::Beyond);
+        }
+        let r = self.residuals(l);
+        let n = self.pairs.len() as u32;
+        let q = self.basis.requirements;
+        Ok(Figures {
+            passed: varied(
+                100000000,
+                n * (n - 1),
+                q.uncertainty as u32,
+                k_factor(n),
+                dispersion(n, r),
+            ),
+            line: l,
+            top: top(self.basis.edition, q.limit, r.most),
+            count: n,
+        })
+    }
+
+    // From the sums on: the divisor, the slope, then the function.
+    fn fit_from(self, z: i32, u: Sums) -> Result<Figures, Refusal>
+        requires { (0 < length self.pairs.now) × ZRanged z × SumsRanged u × (0 < u.n) }
+        ensures { fitted result ≡ fit_from self.entry.basis.edition self.entry.basis.requirements z self.entry.pairs.now u }
+    {
+        let edition = self.basis.edition;
+        let flat = self.is_flat();
+        let d = divisor(flat, u, z);
+        if d <= 0 {
+            return Err(Refusal::Divisor);
+        }
+        let Some(slope) = slope(edition, rise(flat, u), d) else {
+            return Err(Refusal::Slope);
+        };
+        let intercept = intercept(edition, flat, u, z, slope);
+        self.line_fits(Line { slope, intercept })
+    }
 }
 
 // The calibration's outcome.
@@ -561,7 +540,8 @@ pub fn fit(pairs: &[Pair], b: Basis, z: i32) -> Result<Figures, Refusal>
     if !count_fits(pairs.len() as u32) {
         return Err(Refusal::Count);
     }
-    fit_from(pairs, b, z, pair_sums(pairs))
+    let sample = Sample { pairs, basis: b };
+    sample.fit_from(z, sample.sums())
 }
 
 // The annual test's outcome, of the function in force.
@@ -573,10 +553,11 @@ pub fn annual_test(pairs: &[Pair], b: Basis, l: Line) -> Result<Verdicts, Refusa
     if !annual_count_fits(n) {
         return Err(Refusal::Count);
     }
-    if beyond(pairs, b, l) {
+    let sample = Sample { pairs, basis: b };
+    if sample.beyond(l) {
         return Err(Refusal::Beyond);
     }
-    let r = pair_residuals(pairs, b, l);
+    let r = sample.residuals(l);
     let dispersed = dispersion(n, r);
     let sigma = b.requirements.uncertainty as u32;
     Ok(Verdicts {

@@ -3,6 +3,7 @@ use Rattle.std.specs.Prelude.{◌≡◌, refl, ℕ, ◌+◌, ◌-◌, ◌*◌, �
 use Rattle.std.proofs.Math.Path.{ap}
 use Rattle.std.proofs.Common.{◌∙◌, arith}
 use Rattle.std.proofs.Math.IntN.{pos, nat_abs}
+use Rattle.std.specs.Int.{abs_diff}
 use Rattle.std.specs.Int.Signed.{lt_z}
 use Rattle.charts.specs.Integers.{sum, diff, prod, one_zero, abs_ud, up_neg, dn_neg, ud_eq, ud_le, ud_lt, eq_ud, le_lt_z, lt_lt_z}
 use Rattle.charts.specs.Tests.{if_yes, if_no}
@@ -28,10 +29,6 @@ module _ (u : Sum) (adds takes : ℕ) where
       if_yes (lt_z (pos 0) z) _ _ (lt_lt_z {a = pos 0} {b = z} (ud_lt (omega arith)))
       ∙ ap (λ (v : ℕ). record { value = v; count = u.count + 1 }) e
 
--- how far two numbers are apart
-abbrev pub apart_of : ℕ → ℕ → ℕ
-apart_of a b = (a - b) + (b - a)
-
 module _ (s b x : ℕ) (d : ℤ) (e : pos x ≡ d +ℤ pos b) where
   pub rising_code : rising_term s d ≡ pos (1000 * x) -ℤ pos (1000 * b + 501 * s)
   rising_code =
@@ -43,9 +40,9 @@ module _ (s b x : ℕ) (d : ℤ) (e : pos x ≡ d +ℤ pos b) where
       ud_eq (omega (arith, eq_ud e, sum d (pos b), prod (pos 1000) d, up_neg (pos 1000 *ℤ d), dn_neg (pos 1000 *ℤ d), diff k (pos (501 * s)), diff (pos (1000 * b)) (pos (1000 * x + 501 * s))))
 
   -- y is the last difference, raised the same
-  pub precision_code : (y : ℕ) (l : ℤ) → pos y ≡ l +ℤ pos b → precision_term s (d -ℤ l) ≡ pos (10 * (apart_of x y * apart_of x y)) -ℤ pos (37 * (s * s))
+  pub precision_code : (y : ℕ) (l : ℤ) → pos y ≡ l +ℤ pos b → precision_term s (d -ℤ l) ≡ pos (10 * (abs_diff x y * abs_diff x y)) -ℤ pos (37 * (s * s))
   precision_code y l f =
-      let a : nat_abs (d -ℤ l) ≡ apart_of x y = omega (arith, eq_ud e, eq_ud f, sum d (pos b), sum l (pos b), diff d l, one_zero (d -ℤ l), abs_ud (d -ℤ l)) in
+      let a : nat_abs (d -ℤ l) ≡ abs_diff x y = omega (arith, eq_ud e, eq_ud f, sum d (pos b), sum l (pos b), diff d l, one_zero (d -ℤ l), abs_ud (d -ℤ l)) in
       ap (λ (z : ℤ). pos 10 *ℤ z -ℤ pos (37 * (s * s))) (square (d -ℤ l) ∙ ap (λ (n : ℕ). pos (n * n)) a)
     where
       square : (z : ℤ) → z *ℤ z ≡ pos (nat_abs z * nat_abs z)

@@ -6,7 +6,6 @@ ghost use Rattle.charts.specs.Division.{division_of};
 ghost use Rattle.charts.specs.Sums.{added};
 ghost use Rattle.charts.specs.Charts.{adjustment_of, alarms_of, applied_of, blank, reset_of};
 ghost use Rattle.charts.specs.Soundness.{Ranged, Sound, ranged_of, sound_of, within_of};
-ghost use Rattle.charts.specs.CodeLaws.{apart_of};
 
 // The floor of n / d, and what is left over: the rest, in 0..d-1.
 #[derive(Clone, Copy)]
@@ -32,7 +31,7 @@ pub fn divide(n: i64, d: i64) -> Division
 pub fn edition_known(edition: u8) -> bool
     ensures { result ≡ edition_known edition }
 {
-    (edition == 1) | (edition == 2)
+    matches!(edition, 1 | 2)
 }
 
 // Whether the next whole number is taken where r/d is left over: above a half, and at a half in edition 2 only from an odd number. No branch, since
@@ -58,7 +57,8 @@ pub fn near(edition: u8, n: i64, d: i64) -> i64
     p.whole
 }
 
-// The same where the numerator is not negative, for every numerator and every divisor above 0.
+// The same where the numerator is not negative, for every numerator and every divisor above 0. Not one generic function with `near`: all that they share is
+// `rounds_up`, since the floor needs `divide` for a sign, and a trait for the two quotients would be longer than both.
 pub fn near_unsigned(edition: u8, n: u64, d: u64) -> u64
     requires { 0 < d }
     ensures { pos result ≡ near_of edition (pos n) (pos d) }
@@ -72,7 +72,7 @@ pub fn near_unsigned(edition: u8, n: u64, d: u64) -> u64
 }
 
 // One sum of a chart (paper 01: P, M or V) with the count of the readings in it.
-#[derive(Clone, Copy)]
+#[derive(Clone, Copy, Default)]
 pub struct Sum {
     pub value: u64,
     pub count: u32,
@@ -80,7 +80,7 @@ pub struct Sum {
 
 // A control chart: P, M and V, the last difference, the count of readings since the reset, and the two adjustments,
 // downward at a rising alarm and upward at a falling one.
-#[derive(Clone, Copy)]
+#[derive(Clone, Copy, Default)]
 pub struct Chart {
     pub started: bool,
     pub readings: u32,
@@ -106,7 +106,7 @@ fn add(u: Sum, adds: u64, takes: u64) -> Sum
 {
     let z = u.value + adds;
     if z <= takes {
-        return Sum { value: 0, count: 0 };
+        return Sum::default();
     }
     Sum {
         value: z - takes,
@@ -114,17 +114,17 @@ fn add(u: Sum, adds: u64, takes: u64) -> Sum
     }
 }
 
-// The adjustment from a drift sum and its count after a reading, 0 where they show no alarm.
-fn adjustment(edition: u8, value: u64, count: u32, s: u16) -> u64
-    requires { (count ≤ 100000) × (value ≤ 800000000 * count) }
-    ensures { result ≡ adjustment_of edition s (record { value = value; count = count }) }
+// The adjustment from a drift sum after a reading, 0 where it shows no alarm.
+fn adjustment(edition: u8, u: Sum, s: u16) -> u64
+    requires { (u.count ≤ 100000) × (u.value ≤ 800000000 * u.count) }
+    ensures { result ≡ adjustment_of edition s u }
 {
     let t = s as u64;
-    if value <= 2850 * t {
+    if u.value <= 2850 * t {
         return 0;
     }
-    let n = count as u64;
-    near_unsigned(edition, 7 * (501 * t * n + value), 10000 * n)
+    let n = u.count as u64;
+    near_unsigned(edition, 7 * (501 * t * n + u.value), 10000 * n)
 }
 
 // A difference raised by 800,000, so that it is not negative.
@@ -135,45 +135,23 @@ fn raised(d: i32) -> u64
     (d as i64 + 800000) as u64
 }
 
-// How far two numbers are apart.
-fn apart(a: u64, b: u64) -> u64
-    ensures { result ≡ apart_of a b }
-{
-    if a < b { b - a } else { a - b }
-}
-
 // A chart that was never reset.
+#[tactic(auto, unfolding(crate::specs::Charts::blank, crate::specs::Sums::empty))]
 pub fn unstarted() -> Chart
     ensures { result ≡ blank }
 {
-    let none = Sum { value: 0, count: 0 };
-    Chart {
-        started: false,
-        readings: 0,
-        last: 0,
-        rising: none,
-        falling: none,
-        precision: none,
-        downward: 0,
-        upward: 0,
-    }
+    Chart::default()
 }
 
 impl Chart {
     // A reset: the chart is started, and all its figures are 0.
+    #[tactic(auto, unfolding(crate::specs::Charts::reset_of, crate::specs::Sums::empty))]
     pub fn reset(self) -> Chart
         ensures { result ≡ reset_of self }
     {
-        let none = Sum { value: 0, count: 0 };
         Chart {
             started: true,
-            readings: 0,
-            last: 0,
-            rising: none,
-            falling: none,
-            precision: none,
-            downward: 0,
-            upward: 0,
+            ..Chart::default()
         }
     }
 
@@ -184,24 +162,21 @@ impl Chart {
         ensures { result ≡ applied_of self edition s d }
     {
         let x = raised(d);
-        let step = apart(x, raised(self.last));
+        let step = x.abs_diff(raised(self.last));
         let q = s as u64;
         let slack = 501 * q;
-        let p = self.rising;
-        let m = self.falling;
-        let v = self.precision;
-        let rising = add(p, 1000 * x, 800000000 + slack);
-        let falling = add(m, 800000000, 1000 * x + slack);
-        let precision = add(v, 10 * (step * step), 37 * (q * q));
+        let rising = add(self.rising, 1000 * x, 800000000 + slack);
+        let falling = add(self.falling, 800000000, 1000 * x + slack);
+        let precision = add(self.precision, 10 * (step * step), 37 * (q * q));
         Chart {
             started: self.started,
             readings: self.readings + 1,
             last: d,
-            rising: rising,
-            falling: falling,
-            precision: precision,
-            downward: adjustment(edition, rising.value, rising.count, s),
-            upward: adjustment(edition, falling.value, falling.count, s),
+            rising,
+            falling,
+            precision,
+            downward: adjustment(edition, rising, s),
+            upward: adjustment(edition, falling, s),
         }
     }
 
@@ -224,24 +199,20 @@ impl Chart {
         ensures { result ≡ sound_of self }
     {
         let n = self.readings;
-        if 100000 < n {
-            return false;
-        }
-        let p = self.rising;
-        let m = self.falling;
-        let v = self.precision;
-        ranged(self.last)
-            & within(p, 400000000, n)
-            & within(m, 800000000, n)
-            & within(v, 14400000000000, n)
+        n <= 100000
+            && (ranged(self.last)
+                & within(self.rising, 400000000, n)
+                & within(self.falling, 800000000, n)
+                & within(self.precision, 14400000000000, n))
     }
 }
 
 // Whether a number is in the range of a difference.
+#[tactic(auto, unfolding(crate::specs::Soundness::ranged_of))]
 pub fn ranged(d: i32) -> bool
     ensures { result ≡ ranged_of d }
 {
-    (-800000 <= d) & (d <= 400000)
+    (-800000..=400000).contains(&d)
 }
 
 // Whether a sum has at most as many terms as there are readings, and a value of at most `most` for each.
@@ -249,10 +220,7 @@ fn within(u: Sum, most: u64, readings: u32) -> bool
     requires { (most ≤ 14400000000000) × (readings ≤ 100000) }
     ensures { result ≡ within_of most readings u }
 {
-    if readings < u.count {
-        return false;
-    }
-    u.value <= most * (u.count as u64)
+    u.count <= readings && u.value <= most * (u.count as u64)
 }
 
 // The difference of a reading and its reference.

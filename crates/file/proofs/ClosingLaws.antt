@@ -3,7 +3,7 @@ use Rattle.std.specs.Prelude.{◌≡◌, Bool, true, false, not, ◌||◌, eqb, 
 use Rattle.std.proofs.Math.Path.{refl, sym, ap}
 use Rattle.std.proofs.Common.{subst, ◌∙◌, arith}
 use mathlib.Core.List.{List, [], ◌∷◌, ◌++◌, append_assoc}
-use Prim.Native.Nat.{ℕ, ◌+◌, ◌/◌, ◌%◌, ◌≤◌}
+use Prim.Native.Nat.{ℕ, ◌+◌, ◌/◌, ◌≤◌}
 use borrow.Author.Tests.{eq-eqb, ne_eqb, eqb-true, eqb-false, not-false}
 use Rattle.std.proofs.Math.Dec.{ltb}
 use Rattle.std.proofs.Math.ListN.{length, replicate, length-append}
@@ -51,13 +51,6 @@ pub head_written : (target : List ℕ) (kind mark minute : ℕ) → 8 ≤ length
     → written (sets target 0 (kind ∷ mark ∷ 0 ∷ 0 ∷ [])) 4 (bytes32 minute) ≡ written target 0 (head_of kind mark minute)
 head_written target k m n h =
     more target _ 0 (k ∷ m ∷ 0 ∷ 0 ∷ []) (bytes32 n) 4 (sets-eq (k ∷ m ∷ 0 ∷ 0 ∷ []) target 0 (omega arith)) (omega arith) (omega arith)
-
-pub long_written : (target : List ℕ) (at n : ℕ) → at + 8 ≤ length target
-    → written (written target at (bytes32 (n % 4294967296))) (at + 4) (bytes32 (n / 4294967296)) ≡ written target at (bytes64 n)
-unfolding bytes64
-long_written target at n h =
-    let l = bytes32_length (n % 4294967296) in
-    more target _ at (bytes32 (n % 4294967296)) (bytes32 (n / 4294967296)) (at + 4) refl (omega arith) (omega arith)
 
 -- t1 to t4 are the target after each part
 module _ (target t1 t2 t3 t4 : List ℕ) where

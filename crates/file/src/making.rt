@@ -16,7 +16,8 @@ use records::state::State;
 use records::{bytes, closing};
 use refusals::Refusal;
 
-// A closing to be made: its kind, its minute, and Z for a calibration.
+// A closing to be made: its kind, its minute, and Z for a calibration. The kind is a record's byte, as any byte may be asked for: row 6 stops one that
+// closes nothing.
 #[derive(Clone, Copy)]
 pub struct Closing {
     pub kind: u8,
@@ -166,8 +167,6 @@ pub fn make_closing(
     }
     blocks::told(st.edition, edition)?;
     let before = forming::run_records(taking::open(st, edition), bytes)?;
-    match close(before, closing, target) {
-        Ok(()) => Ok(()),
-        Err(row) => Err(Refused::at(row, (bytes.len() / 40) as u8)),
-    }
+    let place = (bytes.len() / 40) as u8;
+    close(before, closing, target).map_err(|row| Refused::at(row, place))
 }

@@ -4,6 +4,7 @@ use mathlib.Core.Bool.{Bool, true, false, ◌&&◌}
 use mathlib.Core.Logic.{◌⊎◌, inl, inr, ⊎_elim}
 use Prim.Native.Nat.{ℕ, zero, suc, ◌+◌, ◌≤◌}
 use native.Mathlib.Omega.{arith}
+use mir.Val.{bool_byte}
 use lib.Dec.{eqb}
 use Rattle.std.specs.Prelude.{if◌then◌else◌, None, Some}
 use Rattle.std.specs.Option.{option_or}
@@ -25,6 +26,11 @@ no_kind l h n1 n2 n3 n4 n5 n6 n7 n8 = over h (past (past (past (past (past (past
     over h l = omega arith
 
 -- a call on the record of a call changes nothing
+-- one more where a test holds
+pub more : (n : ℕ) (b : Bool) → n + bool_byte b ≡ (if b then n + 1 else n)
+more n true = refl
+more n false = omega arith
+
 -- the first call stays the first, as `Option::or` keeps it
 pub raised_or : (d : Demand) (m : ℕ) → option_or d (Some m) ≡ raised_of d m
 unfolding raised_of

@@ -1,10 +1,9 @@
 pub mod OutcomeLaws
 pub mod NoBits
-pub mod LittleEndian
 pub mod SignedLaws
 pub mod ApplyLaws
 pub mod InPlaceLaws
-pub mod PairLoops
+pub mod PairLaws
 pub mod StateLaws
 pub mod AgreementLaws
 pub mod StepsLaws

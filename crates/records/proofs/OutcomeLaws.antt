@@ -1,38 +1,14 @@
--- Refusals and their numbers.
-use Rattle.std.proofs.Common.{◌≡◌, ap, arith}
-use Rattle.std.specs.Prelude.{Result, Ok, Err, IsErrAnd}
-use Rattle.refusals.specs.Rows.{number_of}
+-- No two answers to a record have one outcome: what a contract says of the outcome, it says of the answer.
+use Rattle.std.proofs.Common.{◌≡◌, ap, sym}
+use Rattle.std.specs.Prelude.{Result, Ok, Err}
 use Rattle.refusals.specs.declared.Refusal.{Refusal}
-use Rattle.refusals.specs.declared.Refusal.TheVariants.{Length, Records, Check, Header, Analyser, Sequence, Edition, State, Layout, Place, Minute, Range, Unstarted, Full, Times, Coverage, Waiting, Function, Count, Days, Divisor, Slope, Beyond, Stored}
+use Rattle.refusals.proofs.RowLaws.{number_same}
+pub use Rattle.refusals.proofs.RowLaws.{some_row, passed_on}
+use Rattle.records.specs.State.{Stepped, stepped}
+use Rattle.records.specs.declared.state.State.{State}
 
--- no row has the number 0, which stands for none
-pub some_row : (e : Refusal) → number_of e ≡ 0 → ⊥
-some_row Length h = omega arith
-some_row Records h = omega arith
-some_row Check h = omega arith
-some_row Header h = omega arith
-some_row Analyser h = omega arith
-some_row Sequence h = omega arith
-some_row Edition h = omega arith
-some_row State h = omega arith
-some_row Layout h = omega arith
-some_row Place h = omega arith
-some_row Minute h = omega arith
-some_row Range h = omega arith
-some_row Unstarted h = omega arith
-some_row Full h = omega arith
-some_row Times h = omega arith
-some_row Coverage h = omega arith
-some_row Waiting h = omega arith
-some_row Function h = omega arith
-some_row Count h = omega arith
-some_row Days h = omega arith
-some_row Divisor h = omega arith
-some_row Slope h = omega arith
-some_row Beyond h = omega arith
-some_row Stored h = omega arith
-
--- what a `?` passes on is the refusal that it was given
-pub passed_on : {A : Type 0} (x : Result A Refusal) (e : Refusal) → IsErrAnd x (λ d. d ≡ e) → x ≡ Err e
-passed_on (Ok a) e h = absurd h
-passed_on (Err d) e h = ap Err h
+pub stepped_same : (st : State) (x y : Result State Refusal) → stepped st x ≡ stepped st y → x ≡ y
+stepped_same st (Ok a) (Ok b) h = ap Ok (ap (λ (s : Stepped). s.state) h)
+stepped_same st (Ok a) (Err e) h = absurd (some_row e (sym (ap (λ (s : Stepped). s.refusal) h)))
+stepped_same st (Err d) (Ok b) h = absurd (some_row d (ap (λ (s : Stepped). s.refusal) h))
+stepped_same st (Err d) (Err e) h = ap Err (number_same d e (ap (λ (s : Stepped). s.refusal) h))

@@ -1,4 +1,5 @@
 pub mod Bytes
+pub mod LittleEndian
 pub mod BytesLaws
 pub mod Record
 pub mod RecordLaws

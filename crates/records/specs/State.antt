@@ -110,7 +110,7 @@ pub record Stepped : Type 0 where
   pub refusal : ℕ
   pub state : State
 
--- an answer to a record as such an outcome: with a refusal the state is as it was
+-- an answer to a record as such an outcome: with a refusal the state is as it was; no two answers have one outcome (proofs/OutcomeLaws)
 abbrev pub stepped : State → Result State Refusal → Stepped
 stepped st (Ok after) = record { refusal = 0; state = after }
 stepped st (Err e) = record { refusal = number_of e; state = st }

@@ -11,51 +11,29 @@ ghost use Rattle.records.specs.StateParts.{emptied as StateParts·emptied, judge
 
 use crate::state::{Function, Setting, State, Waiting};
 use crate::{bytes, fields};
-use calibration::{Actual, Conditions, Pair, Requirements};
 
+// A place of the array that holds no pair.
+#[tactic(auto, unfolding(crate::specs::State::no_pair))]
 fn no_pair() -> Waiting
     ensures { result ≡ no_pair }
 {
-    Waiting {
-        start: 0,
-        end: 0,
-        pair: Pair {
-            signal: 0,
-            srm: Actual(0),
-            conditions: Conditions {
-                temperature: 0,
-                pressure: 0,
-                water: 0,
-                oxygen: 0,
-            },
-        },
-    }
+    Waiting::default()
 }
 
 // A fresh state for an analyser number.
 pub fn initial(analyser: u32) -> State
     ensures { result ≡ initial_of analyser }
 {
-    let w = no_pair();
     State {
-        analyser: analyser,
+        analyser,
         next: 0,
         begun: false,
         minute: 0,
-        setting: Setting {
-            requirements: Requirements {
-                limit: 0,
-                uncertainty: 0,
-                oxygen: 0,
-            },
-            zero: 0,
-            span: 0,
-            response: 0,
-        },
+        setting: Setting::default(),
         zero: charts::unstarted(),
         span: charts::unstarted(),
         pending: 0,
-        pairs: [w; 30],
+        pairs: [no_pair(); 30],
         calibration: None,
         total: 0,
         outside: 0,
@@ -112,39 +90,34 @@ fn judged(st: State, m: u32) -> State
             ..st
         };
     }
-    let over = weeks_over(st.over, st.outside, st.total);
-    let demand = demand_after(st, m);
     State {
         begun: true,
         minute: m,
         total: 0,
         outside: 0,
-        over: over,
-        demand: demand,
+        over: weeks_over(st.over, st.outside, st.total),
+        demand: demand_after(st, m),
         ..st
     }
 }
 
 // ---- kinds
 
-fn with_pair(st: State, w: Waiting) -> State
+fn with_pair(mut st: State, w: Waiting) -> State
     requires { st.pending < 30 }
     ensures { result ≡ with_pair st w }
 {
-    let i = st.pending;
-    let mut s = st;
-    s.pairs[i as usize] = w;
-    s.pending = i + 1;
-    s
+    st.pairs[st.pending as usize] = w;
+    st.pending += 1;
+    st
 }
 
 fn emptied(st: State) -> State
     ensures { result ≡ StateParts·emptied st }
 {
-    let w = no_pair();
     State {
         pending: 0,
-        pairs: [w; 30],
+        pairs: [no_pair(); 30],
         ..st
     }
 }
@@ -210,20 +183,15 @@ fn with_value(st: State, mark: u8, outside: bool) -> State
     if mark != 0 {
         return st;
     }
-    if outside {
-        return State {
-            total: st.total + 1,
-            outside: st.outside + 1,
-            ..st
-        };
-    }
     State {
         total: st.total + 1,
+        outside: st.outside + u32::from(outside),
         ..st
     }
 }
 
-// A reading of the chart of its mark: 0 for zero, 1 for span.
+// A reading of the chart of its mark: 0 for zero, 1 for span. The choice by the mark is no helper's: one would test it twice, to take the chart and to put it
+// back.
 fn with_reading(st: State, r: &[u8; 40]) -> State
     requires { (reading_ranged r.now ≡ true) × (reading_refusal (facts_of st) r.now ≡ 0) × Charts-as-Sound st.zero × Charts-as-Sound st.span }
     ensures { result ≡ with_reading st r.now }
@@ -283,8 +251,8 @@ pub fn apply(st: State, r: &[u8; 40]) -> State
     ensures { result ≡ applied_to st r.now }
 {
     let s = judged(st, bytes::read32(r, 4));
-    let kind = r[0];
-    match kind {
+    // The kind stays a byte, matched with ranges: a rule of the project.
+    match r[0] {
         1 => State {
             setting: fields::setting_of(r),
             ..s
@@ -301,14 +269,14 @@ pub fn apply(st: State, r: &[u8; 40]) -> State
     }
 }
 
-// ---- values and readings, which are most records, in the week of the record before: the state is changed in place
+// ---- values and readings, which are most records, in the week of the record before: the state is changed in place, beside `with_value` and `with_reading`,
+// for the reader's speed
 
 // Whether a record is of the kind given and of no later week than the last one.
 pub fn in_week(kind: u8, st: State, r: &[u8; 40]) -> bool
     ensures { result ≡ in_week_of kind st r.now }
 {
-    let m = bytes::read32(r, 4);
-    (r[0] == kind) & (m / 10080 <= st.minute / 10080)
+    (r[0] == kind) & (bytes::read32(r, 4) / 10080 <= st.minute / 10080)
 }
 
 // A value: the minute changes, and with mark 0 the tally.

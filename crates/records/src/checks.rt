@@ -17,11 +17,7 @@ use refusals::Refusal;
 pub fn misplaced(st: State, r: &[u8; 40]) -> bool
     ensures { result ≡ Table·misplaced (facts_of st) r.now }
 {
-    let kind = r[0];
-    if st.begun {
-        return kind == 1;
-    }
-    kind != 1
+    st.begun == (r[0] == 1)
 }
 
 // Before the last record's minute, or over 100,000,000.
@@ -59,10 +55,7 @@ fn response(s: Setting) -> u32
     requires { SettingSound s }
     ensures { (result ≡ response_of s) × (result ≤ 60) }
 {
-    if s.response == 0 {
-        return 7;
-    }
-    s.response
+    if s.response == 0 { 7 } else { s.response }
 }
 
 // Whether a pair starts late enough after the one before it.
@@ -79,19 +72,16 @@ fn times_fit(st: State, r: &[u8; 40]) -> bool
 {
     let m = bytes::read32(r, 4);
     let l = fields::length_of(r);
-    let s = st.setting;
-    if l < 4 * response(s) {
+    if l < 4 * response(st.setting) {
         return false;
     }
     if m < l {
         return false;
     }
-    let n = st.pending;
-    if n == 0 {
-        return true;
+    match st.pairs[..st.pending as usize].last() {
+        None => true,
+        Some(w) => follows(*w, m - l, l),
     }
-    let w = st.pairs[(n - 1) as usize];
-    follows(w, m - l, l)
 }
 
 pub fn pair_refusal(st: State, r: &[u8; 40]) -> Result<(), Refusal>

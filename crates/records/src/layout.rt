@@ -15,8 +15,8 @@ fn plain(r: &[u8; 40], marks: u8, end: usize) -> bool
 pub fn formed(r: &[u8; 40]) -> bool
     ensures { result ≡ formed_of r.now }
 {
-    let kind = r[0];
-    match kind {
+    // The kind stays a byte, matched with ranges: a rule of the project.
+    match r[0] {
         1 => plain(r, 0, 32),
         2 => plain(r, 1, 16),
         3 => plain(r, 1, 8),

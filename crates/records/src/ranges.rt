@@ -39,8 +39,8 @@ fn value_ranged(r: &[u8; 40]) -> bool
 pub fn ranged(r: &[u8; 40]) -> bool
     ensures { result ≡ ranged_of r.now }
 {
-    let kind = r[0];
-    match kind {
+    // The kind stays a byte, matched with ranges: a rule of the project.
+    match r[0] {
         1 => setting_ranged(r),
         2 => reading_ranged(r),
         4 => waiting_ranged(r),

@@ -43,10 +43,12 @@ fn calibration_sound(k: Option<Function>) -> bool
     }
 }
 
-// Counts that go record by record are held to `most`.
+// Counts that go record by record are held to `most`. What is tested here stands in the clauses of the functions that need it, and is no ghost field of the
+// state: that is public, and a field would ask it of whoever makes one.
 pub fn sound(most: u32, st: State) -> bool
     ensures { result ≡ sound_of most st }
 {
+    // Asked first, since the pairs are read to that place.
     if 30 < st.pending {
         return false;
     }

@@ -6,7 +6,7 @@ use calibration::{Line, Pair, Requirements, Standard};
 use charts::Chart;
 
 // What the first record sets: E, σ and the reference oxygen, s of each chart, and the response minutes.
-#[derive(Clone, Copy)]
+#[derive(Clone, Copy, Default)]
 pub struct Setting {
     pub requirements: Requirements,
     pub zero: u16,
@@ -15,7 +15,7 @@ pub struct Setting {
 }
 
 // A pair that waits for a closing: its start, its end, and its figures.
-#[derive(Clone, Copy)]
+#[derive(Clone, Copy, Default)]
 pub struct Waiting {
     pub start: u32,
     pub end: u32,
@@ -45,7 +45,8 @@ impl Function {
 
 // The standing: an analyser, the block number that it expects, a summary of the accepted records, and the edition of the block that is open,
 // or between blocks that of the last one taken or formed: 0 before the first. `calibration` is the function in force, and `demand` the minute of the first
-// call for a new one since it.
+// call for a new one since it. Thirty places stand beside their count, and `begun` beside the minute and the setting, since the state is public and goes by
+// value in fixed memory, with no heap.
 #[derive(Clone, Copy)]
 pub struct State {
     pub analyser: u32,

@@ -15,8 +15,8 @@ fn kind_refusal(st: State, r: &[u8; 40]) -> Result<(), Refusal>
     requires { Sound 4000000000 st × (misplaced (facts_of st) r.now ≡ false) × (ranged_of r.now ≡ true) }
     ensures { outcome_of result ≡ kind_refusal (facts_of st) r.now }
 {
-    let kind = r[0];
-    match kind {
+    // The kind stays a byte, matched with ranges: a rule of the project.
+    match r[0] {
         2 => checks::reading_refusal(st, r),
         4 => checks::pair_refusal(st, r),
         5 => closing::calibration_refusal(st, r),

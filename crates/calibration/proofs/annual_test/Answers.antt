@@ -12,6 +12,7 @@ use Rattle.calibration.specs.declared.Basis.{Basis}
 use Rattle.calibration.specs.declared.Line.{Line}
 use Rattle.calibration.specs.declared.Pair.{Pair}
 use Rattle.calibration.specs.declared.Residuals.{Residuals}
+use Rattle.calibration.proofs.SampleLaws.{all_tested, required_tested}
 use Rattle.calibration.proofs.annual_test.Goals as goal
 
 -- ---- the count, the residuals and their sum
@@ -41,14 +42,17 @@ pub returns-then-beyond : goal.returns-then-beyond
 returns-then-beyond c =
     sym (test_beyond c.args.b.edition c.args.b.requirements c.args.l c.args.pairs.now (sym c.annual_count_fits.ensures ∙ c.if-not-annual_count_fits.false) (sym c.beyond.ensures ∙ c.if-beyond.true))
 
-pub pair_residuals-r-requires : goal.pair_residuals-r-requires
-pair_residuals-r-requires c =
+pub invariant_of-sample : goal.invariant_of-sample
+invariant_of-sample c = record { few = c.requires.0; ranged = all_tested c.args.pairs.now c.requires.1; required = required_tested c.args.b.requirements c.requires.2 }
+
+pub residuals-r-requires : goal.residuals-r-requires
+residuals-r-requires c =
     let n = counted c.args.b c.args.l c.args.pairs.now (sym c.annual_count_fits.ensures ∙ c.if-not-annual_count_fits.false) in
-    (omega (arith, n), c.requires.0, c.requires.1, c.requires.2, c.requires.3, sym c.beyond.ensures ∙ c.if-beyond.false)
+    (omega (arith, n), c.requires.3, sym c.beyond.ensures ∙ c.if-beyond.false)
 
 pub dispersion-dispersed-requires : goal.dispersion-dispersed-requires
 dispersion-dispersed-requires c =
-    let s = spread c.args.b c.args.l c.args.pairs.now (sym c.annual_count_fits.ensures ∙ c.if-not-annual_count_fits.false) (sym c.beyond.ensures ∙ c.if-beyond.false) c.pair_residuals-r.ensures in
+    let s = spread c.args.b c.args.l c.args.pairs.now (sym c.annual_count_fits.ensures ∙ c.if-not-annual_count_fits.false) (sym c.beyond.ensures ∙ c.if-beyond.false) c.residuals-r.ensures in
     (c.requires.0, s.sum, s.squares, s.above)
 
 pub overflow_cast-sigma : goal.overflow_cast-sigma
@@ -69,8 +73,8 @@ function_holds-requires c =
     let F = sym c.annual_count_fits.ensures ∙ c.if-not-annual_count_fits.false in
     let B = sym c.beyond.ensures ∙ c.if-beyond.false in
     let n = counted c.args.b c.args.l c.args.pairs.now F in
-    let s = spread c.args.b c.args.l c.args.pairs.now F B c.pair_residuals-r.ensures in
-    let S = S c.args.b c.args.l c.args.pairs.now F B c.pair_residuals-r.ensures in
+    let s = spread c.args.b c.args.l c.args.pairs.now F B c.residuals-r.ensures in
+    let S = S c.args.b c.args.l c.args.pairs.now F B c.residuals-r.ensures in
     (n.1, omega (arith, n), omega (arith, cast_u S, s.sum), omega (arith, ap nat_abs (c.dispersion-dispersed.ensures ∙ s.is), s.size), sigma_small c.requires.2)
 
 pub returns : goal.returns
@@ -80,11 +84,11 @@ returns c =
     let ps = c.args.pairs.now in
     let F = sym c.annual_count_fits.ensures ∙ c.if-not-annual_count_fits.false in
     let B = sym c.beyond.ensures ∙ c.if-beyond.false in
-    let s = spread b l ps F B c.pair_residuals-r.ensures in
+    let s = spread b l ps F B c.residuals-r.ensures in
     let q = c.dispersion-dispersed.result in
     test_stands b.edition b.requirements l ps (length ps) q (nat_abs b.requirements.uncertainty) F B refl (c.dispersion-dispersed.ensures ∙ s.is) (sigma_is c.requires.2)
     c.varied.result (c.varied.ensures ∙ rw (sigma_reads c.requires.2, c.annual_k_factor.ensures.0))
     c.function_holds.result
     (c.function_holds.ensures
-    ∙ ap (λ (z : ℤ). function_of (length ps) z (pos q) (pos (nat_abs (to_z w32 (of_z w32 b.requirements.uncertainty))))) (sum_is b l ps F B c.pair_residuals-r.ensures)
+    ∙ ap (λ (z : ℤ). function_of (length ps) z (pos q) (pos (nat_abs (to_z w32 (of_z w32 b.requirements.uncertainty))))) (sum_is b l ps F B c.residuals-r.ensures)
     ∙ ap (λ (k : ℕ). function_of (length ps) (residuals_of b.edition b.requirements.oxygen l ps).sum (pos q) (pos k)) (sigma_reads c.requires.2))

@@ -1,141 +1,77 @@
 -- `charts::Chart::apply` meets its contract.
-use borrow.Author.Rules.{rules}
-use mathlib.Core.Path.{◌≡◌, sym, ap, ◌∙◌}
-use Prim.Native.Nat.{ℕ, ◌+◌, ◌*◌, ◌≤◌}
-use native.Mathlib.Omega.{arith}
-use native.Mathlib.Nat.{mul-le-mul}
-use lib.IntN.{ℤ, pos, ◌+ℤ◌, ◌-ℤ◌}
-use mir.Syntax.{w32}
+use Rattle.std.proofs.Common.{rules, ◌≡◌, sym, ap, ◌∙◌, ◌+◌, ◌*◌, ◌≤◌, ℕ, arith, mul-le-mul, to_z-of_z, SFits, w32}
+use Rattle.std.specs.Prelude.{ℤ, pos, ◌+ℤ◌, ◌-ℤ◌}
+use Rattle.std.specs.Int.{abs_diff}
 use mir.Val.{to_z, of_z}
-use mir.Facts.{to_z-of_z}
-use Rattle.charts.specs.Sums.{added}
 use Rattle.charts.specs.Charts.{applied_of, rising_term, falling_term, precision_term}
 use Rattle.charts.specs.CodeLaws.{rising_code, falling_code, precision_code}
-use Rattle.charts.specs.Soundness.{Within, most_rising, most_falling}
+use Rattle.charts.specs.Soundness.{Ranged, Sound, Within, most_rising, most_falling}
 use Rattle.charts.specs.SoundnessLaws.{added_within, rising_most, falling_most}
+use Rattle.charts.specs.Sums.{added}
+use Rattle.charts.specs.declared.Chart.{Chart}
+use Rattle.charts.specs.declared.Sum.{Sum}
 use Rattle.charts.proofs.Chart.apply.Goals as goal
-use Rattle.charts.proofs.Chart.apply.Lts as lts
-use Rattle.charts.proofs.Chart.apply.Tie as tie
-use Rattle.charts.proofs.Chart.apply.Reads as reads
-use Rattle.charts.proofs.Chart.apply.Goals.{Start}
 
-abbrev At-After-add-falling : Type 0
-At-After-add-falling = lts.After-add2 tie.the-claims reads.Pre reads.Post
+-- a difference, raised
+raised-is : {z : ℤ} {r : ℕ} → SFits w32 z → pos r ≡ to_z w32 (of_z w32 z) +ℤ pos 800000 → pos r ≡ z +ℤ pos 800000
+raised-is F R = R ∙ ap (λ (z : ℤ). z +ℤ pos 800000) (to_z-of_z {w = w32} F)
 
-abbrev At-After-add-precision : Type 0
-At-After-add-precision = lts.After-add3 tie.the-claims reads.Pre reads.Post
-
-abbrev At-After-add-rising : Type 0
-At-After-add-rising = lts.After-add tie.the-claims reads.Pre reads.Post
-
-abbrev At-After-apart-step : Type 0
-At-After-apart-step = lts.After-apart tie.the-claims reads.Pre reads.Post
-
-abbrev At-After-raised : Type 0
-At-After-raised = lts.After-raised2 tie.the-claims reads.Pre reads.Post
-
-abbrev At-After-raised-x : Type 0
-At-After-raised-x = lts.After-raised tie.the-claims reads.Pre reads.Post
-
-abbrev At-After-struct_told-1 : Type 0
-At-After-struct_told-1 = lts.After-struct_told tie.the-claims reads.Pre reads.Post
-
-abbrev At-After-v-1 : Type 0
-At-After-v-1 = lts.After-v tie.the-claims reads.Pre reads.Post
-
-d-back : (c : Start) → to_z w32 (of_z w32 c.args.d) ≡ c.args.d
-d-back c = to_z-of_z {w = w32} c.ranges.d
-
-l-back : (c : At-After-struct_told-1) → let l = c.before.before.args.self.last in to_z w32 (of_z w32 l) ≡ l
-l-back c = to_z-of_z {w = w32} (search rules)
-
-s-small : (c : Start) → c.args.s * c.args.s ≤ 65536 * 65536
-s-small c = mul-le-mul {n₂ = 65536} {m₂ = 65536} (omega arith) (omega arith)
-
-step_small : (c : At-After-apart-step) → c.apart-step.result * c.apart-step.result ≤ 1200000 * 1200000
-step_small c =
-    let k : c.apart-step.result ≤ 1200000 = omega (arith, c.apart-step.ensures, c.before.raised.ensures.1, c.before.before.before.raised-x.ensures.1) in
-    mul-le-mul {n₂ = 1200000} {m₂ = 1200000} k k
-
--- the two differences, raised
-x_is : (c : At-After-raised-x) → pos c.raised-x.result ≡ c.before.args.d +ℤ pos 800000
-x_is c = c.raised-x.ensures.0 ∙ ap (λ (z : ℤ). z +ℤ pos 800000) (d-back c.before)
-
-y-is : (c : At-After-raised) → pos c.raised.result ≡ c.before.before.before.args.self.last +ℤ pos 800000
-y-is c = c.raised.ensures.0 ∙ ap (λ (z : ℤ). z +ℤ pos 800000) (l-back c.before)
+step_small : {x y step : ℕ} → step ≡ abs_diff x y → x ≤ 1200000 → y ≤ 1200000 → step * step ≤ 1200000 * 1200000
+step_small {x} {y} {step} e h k =
+    let s : step ≤ 1200000 = omega arith in
+    mul-le-mul {n₂ = 1200000} {m₂ = 1200000} s s
 
 -- the three sums are those of the definition
-abbrev raised_at : At-After-v-1 → At-After-raised-x
-raised_at c = c.before.before.before.before.before.before
+module _ (self : Chart) (s x : ℕ) (d : ℤ) (X : pos x ≡ d +ℤ pos 800000) {r : Sum} where
+  rising-is : r ≡ added self.rising (pos (1000 * x) -ℤ pos (800000000 + 501 * s)) → r ≡ added self.rising (rising_term s d)
+  rising-is e = e ∙ ap (added self.rising) (sym (rising_code s 800000 x d X))
 
-abbrev start : At-After-v-1 → Start
-start c = (raised_at c).before
+  falling-is : r ≡ added self.falling (pos 800000000 -ℤ pos (1000 * x + 501 * s)) → r ≡ added self.falling (falling_term s d)
+  falling-is e = e ∙ ap (added self.falling) (sym (falling_code s 800000 x d X))
 
-rising-is : (c : At-After-add-rising) → let a = (start c.before).args in c.add-rising.result ≡ added a.self.rising (rising_term a.s a.d)
-rising-is c =
-    let a = (start c.before).args in
-    let r = raised_at c.before in
-    let e : c.add-rising.result ≡ added a.self.rising (pos (1000 * r.raised-x.result) -ℤ pos (800000000 + 501 * a.s)) = c.add-rising.ensures in
-    e ∙ ap (added a.self.rising) (sym (rising_code a.s 800000 r.raised-x.result a.d (x_is r)))
+  precision-is : {y step : ℕ} → pos y ≡ self.last +ℤ pos 800000 → step ≡ abs_diff x y → r ≡ added self.precision (pos (10 * (step * step)) -ℤ pos (37 * (s * s))) → r ≡ added self.precision (precision_term s (d -ℤ self.last))
+  precision-is {y} Y S e =
+      e ∙ ap (λ (n : ℕ). added self.precision (pos (10 * (n * n)) -ℤ pos (37 * (s * s)))) S
+      ∙ ap (added self.precision) (sym (precision_code s 800000 x d X y self.last Y))
 
-falling-is : (c : At-After-add-falling) → let a = (start c.before.before).args in c.add-falling.result ≡ added a.self.falling (falling_term a.s a.d)
-falling-is c =
-    let a = (start c.before.before).args in
-    let r = raised_at c.before.before in
-    c.add-falling.ensures ∙ ap (added a.self.falling) (sym (falling_code a.s 800000 r.raised-x.result a.d (x_is r)))
+  -- and they stay within their bounds, as the adjustments ask
+  rising-within : Sound self → Ranged d → r ≡ added self.rising (rising_term s d) → Within most_rising (self.readings + 1) r
+  rising-within S D e = rw e (added_within most_rising self.readings self.rising (rising_term s d) (rising_most s D) S.rising)
 
-precision-is : (c : At-After-add-precision) → let a = (start c.before.before.before).args in c.add-precision.result ≡ added a.self.precision (precision_term a.s (a.d -ℤ a.self.last))
-precision-is c =
-    let v = c.before.before.before in
-    let a = (start v).args in
-    let r = raised_at v in
-    let t = v.before.before.before in
-    let s = t.before in
-    c.add-precision.ensures ∙ ap (λ (n : ℕ). added a.self.precision (pos (10 * (n * n)) -ℤ pos (37 * (a.s * a.s)))) t.apart-step.ensures
-    ∙ ap (added a.self.precision) (sym (precision_code a.s 800000 r.raised-x.result a.d (x_is r) s.raised.result a.self.last (y-is s)))
-
--- and they stay within their bounds, as the adjustments ask
-rising-within : (c : At-After-add-rising) → Within most_rising ((start c.before).args.self.readings + 1) c.add-rising.result
-rising-within c =
-    let s = start c.before in
-    let a = s.args in
-    rw (rising-is c) (added_within most_rising a.self.readings a.self.rising (rising_term a.s a.d) (rising_most a.s s.requires.2) s.requires.0.rising)
-
-falling-within : (c : At-After-add-falling) → Within most_falling ((start c.before.before).args.self.readings + 1) c.add-falling.result
-falling-within c =
-    let s = start c.before.before in
-    let a = s.args in
-    rw (falling-is c) (added_within most_falling a.self.readings a.self.falling (falling_term a.s a.d) (falling_most a.s s.requires.2) s.requires.0.falling)
-
-pub raised-x-requires : goal.raised-x-requires
-raised-x-requires c = rw (d-back c) c.requires.2
-
-pub overflow_mul-step : goal.overflow_mul-step
-overflow_mul-step c = omega (arith, step_small c.before.before.before.before.before.before)
+  falling-within : Sound self → Ranged d → r ≡ added self.falling (falling_term s d) → Within most_falling (self.readings + 1) r
+  falling-within S D e = rw e (added_within most_falling self.readings self.falling (falling_term s d) (falling_most s D) S.falling)
 
 pub overflow_mul-step-2 : goal.overflow_mul-step-2
-overflow_mul-step-2 c = omega (arith, step_small c.before.before.before.before.before.before)
-
-pub overflow_mul-q : goal.overflow_mul-q
-overflow_mul-q c = omega (arith, s-small c.before.before.before.before.before.before.before.before.before.before)
-
-pub overflow_mul-q-2 : goal.overflow_mul-q-2
-overflow_mul-q-2 c = omega (arith, s-small c.before.before.before.before.before.before.before.before.before.before)
+overflow_mul-step-2 c = omega (arith, step_small c.abs_diff-step.ensures c.raised-x.ensures.1 c.raised.ensures.1)
 
 pub add-precision-requires : goal.add-precision-requires
-add-precision-requires c = omega (arith, step_small c.before.before.before.before.before.before)
+add-precision-requires c =
+    let p = c.requires.0.precision in
+    let k = step_small c.abs_diff-step.ensures c.raised-x.ensures.1 c.raised.ensures.1 in
+    (omega (arith, p.counted, p.bounded, c.requires.1), omega (arith, p.counted, c.requires.1), omega (arith, k))
 
 pub adjustment-requires : goal.adjustment-requires
-adjustment-requires c = let w = rising-within c.before.before.before.before in omega (arith, w.counted, w.bounded, (start c.before.before.before.before.before).requires.1)
+adjustment-requires c =
+    let a = c.args in
+    let x = raised-is c.ranges.d c.raised-x.ensures.0 in
+    let w = rising-within a.self a.s c.raised-x.result a.d x c.requires.0 c.requires.2 (rising-is a.self a.s c.raised-x.result a.d x c.add-rising.ensures) in
+    (omega (arith, w.counted, c.requires.1), omega (arith, w.bounded))
 
 pub adjustment-requires-2 : goal.adjustment-requires-2
-adjustment-requires-2 c = let w = falling-within c.before.before.before.before in omega (arith, w.counted, w.bounded, (start c.before.before.before.before.before.before).requires.1)
+adjustment-requires-2 c =
+    let a = c.args in
+    let x = raised-is c.ranges.d c.raised-x.ensures.0 in
+    let w = falling-within a.self a.s c.raised-x.result a.d x c.requires.0 c.requires.2 (falling-is a.self a.s c.raised-x.result a.d x c.add-falling.ensures) in
+    (omega (arith, w.counted, c.requires.1), omega (arith, w.bounded))
 
 pub returns : goal.returns
 unfolding applied_of
 returns c =
-    let k = c.before.before.before in
-    let p = rising-is k.before.before in
-    let m = falling-is k.before in
-    let v = precision-is k in
-    simp (c.adjustment-2.ensures, c.before.adjustment.ensures, p, m, v, d-back (start k.before.before.before))
+    let a = c.args in
+    let x = raised-is c.ranges.d c.raised-x.ensures.0 in
+    let F : SFits w32 a.self.last = search rules in
+    let y = raised-is F c.raised.ensures.0 in
+    let p = rising-is a.self a.s c.raised-x.result a.d x c.add-rising.ensures in
+    let m = falling-is a.self a.s c.raised-x.result a.d x c.add-falling.ensures in
+    let v = precision-is a.self a.s c.raised-x.result a.d x y c.abs_diff-step.ensures c.add-precision.ensures in
+    simp (c.adjustment-2.ensures, c.adjustment.ensures, p, m, v, to_z-of_z {w = w32} c.ranges.d)

@@ -12,7 +12,7 @@ use Rattle.records.specs.Soundness.{SettingSound}
 use Rattle.records.specs.Table.{calibration_of}
 use Rattle.file.specs.Closings.{first_rows, kept, calibration_record}
 use Rattle.file.proofs.ClosingLaws as L
-use Rattle.file.proofs.RowsLaws.{number_ne}
+use Rattle.file.proofs.OutcomeLaws.{some_row}
 use Rattle.file.proofs.making.close.Goals as goal
 use Rattle.file.proofs.making.close.Goals.{In_ok-first_rows, Start}
 
@@ -34,7 +34,7 @@ returns-in_err-first_rows-clause-value c =
     let a = c.args.closing in
     let r = c.in_err-first_rows in
     let p = err_from_is_err_and c.from_residual.result c.from_residual.ensures.1 in
-    rw (p.1, p.2) (r.ensures ∙ sym (L.first_refuses (facts_of c.args.st) a.kind a.minute a.z (λ z. number_ne r.field-0.0 (r.ensures ∙ z))))
+    rw (p.1, p.2) (r.ensures ∙ sym (L.first_refuses (facts_of c.args.st) a.kind a.minute a.z (λ z. some_row r.field-0.0 (r.ensures ∙ z))))
 
 pub close_calibration-requires : goal.close_calibration-requires
 close_calibration-requires c =

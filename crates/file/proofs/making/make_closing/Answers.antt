@@ -1,21 +1,22 @@
 -- `making::make_closing` meets its contract: one law for each row that stops it, one for a record's, one for the closing's own, and one for the closing made.
 use Rattle.std.proofs.Common.{◌≡◌, ◌≤◌, ◌<◌, ◌/◌, ◌||◌, true, eqb, length, refl, sym, ap, ◌∙◌, subst, arith, rules}
 use Rattle.std.proofs.lemmas.Result.{err_from_is_err_and}
-use Rattle.std.specs.Option.{IfSome}
-use Rattle.refusals.specs.Rows.{number_of}
+use Rattle.std.specs.Prelude.{List, ℕ, zero, suc, MatchResult, Result, Ok, Err, Some}
+use Rattle.refusals.specs.declared.Refusal.{Refusal}
+use Rattle.refusals.specs.Rows.{number_of, outcome_of}
 use Rattle.records.specs.Soundness.{Sound}
 use Rattle.records.specs.State.{facts_of}
 use Rattle.records.specs.declared.state.State.{State}
-use Rattle.file.specs.Answered.{Appended, index_of, ran_of}
+use Rattle.file.specs.Answered.{Appended, PlaceOfTwelve, index_of, ran_of}
 use Rattle.file.specs.Calls.{opened, ready_of}
-use Rattle.file.specs.Closings.{closing_of, closing_refusal, made}
+use Rattle.file.specs.Closings.{Made, closing_of, closing_refusal, kept, made, made_by, make_of}
 use Rattle.file.specs.FitLaws.{fit_size, opened_ready}
 use Rattle.file.specs.Taking.{records_fit}
 use Rattle.file.specs.declared.Refused.{Refused}
 use Rattle.file.proofs.ClosingLaws as L
-use Rattle.file.proofs.RowsLaws.{number_ne}
+use Rattle.file.proofs.OutcomeLaws.{some_row}
 use Rattle.file.proofs.making.make_closing.Goals as goal
-use Rattle.file.proofs.making.make_closing.Goals.{Else-not-closes, Else-not-ready, Else-not-records_fit, In_ok-before, Start}
+use Rattle.file.proofs.making.make_closing.Goals.{After-map_err, Else-not-closes, Else-not-ready, Else-not-records_fit, In_ok-before, Start}
 
 -- what a passed row tells
 fits : (c : Else-not-records_fit) → records_fit 0 11 (length c.args.bytes.now) ≡ true
@@ -93,7 +94,7 @@ pub returns-in_err-told-clause-value : goal.returns-in_err-told-clause-value
 returns-in_err-told-clause-value c =
     let a = c.args in
     let r = c.in_err-told in
-    let e = L.told_stops a.st a.edition a.bytes.now a.closing.kind a.closing.minute a.closing.z _ c.if-target-ne40.false (fits (goal.at.returns-in_err-told-clause-value c).Else-not-records_fit) (closes (goal.at.returns-in_err-told-clause-value c).Else-not-closes) (sound (goal.at.returns-in_err-told-clause-value c).Else-not-ready) (number_of r.field-0.0) r.ensures (number_ne r.field-0.0) in
+    let e = L.told_stops a.st a.edition a.bytes.now a.closing.kind a.closing.minute a.closing.z _ c.if-target-ne40.false (fits (goal.at.returns-in_err-told-clause-value c).Else-not-records_fit) (closes (goal.at.returns-in_err-told-clause-value c).Else-not-closes) (sound (goal.at.returns-in_err-told-clause-value c).Else-not-ready) (number_of r.field-0.0) r.ensures (some_row r.field-0.0) in
     let p = err_from_is_err_and c.from_residual.result c.from_residual.ensures.1 in
     rw (p.1, p.2) (sym e)
 
@@ -101,8 +102,8 @@ pub returns-in_err-told-clause-target_after : goal.returns-in_err-told-clause-ta
 returns-in_err-told-clause-target_after c =
     let a = c.args in
     let r = c.in_err-told in
-    let e = L.told_stops a.st a.edition a.bytes.now a.closing.kind a.closing.minute a.closing.z _ c.if-target-ne40.false (fits (goal.at.returns-in_err-told-clause-target_after c).Else-not-records_fit) (closes (goal.at.returns-in_err-told-clause-target_after c).Else-not-closes) (sound (goal.at.returns-in_err-told-clause-target_after c).Else-not-ready) (number_of r.field-0.0) r.ensures (number_ne r.field-0.0) in
-    L.bytes_kept a.st a.edition a.bytes.now a.closing.kind a.closing.minute a.closing.z a.target.now _ e (number_ne r.field-0.0)
+    let e = L.told_stops a.st a.edition a.bytes.now a.closing.kind a.closing.minute a.closing.z _ c.if-target-ne40.false (fits (goal.at.returns-in_err-told-clause-target_after c).Else-not-records_fit) (closes (goal.at.returns-in_err-told-clause-target_after c).Else-not-closes) (sound (goal.at.returns-in_err-told-clause-target_after c).Else-not-ready) (number_of r.field-0.0) r.ensures (some_row r.field-0.0) in
+    L.bytes_kept a.st a.edition a.bytes.now a.closing.kind a.closing.minute a.closing.z a.target.now _ e (some_row r.field-0.0)
 
 pub run_records-requires : goal.run_records-requires
 run_records-requires c =
@@ -113,7 +114,7 @@ returns-in_err-before-clause-value c =
     let a = c.args in
     let r = c.in_err-before in
     let h = ran (goal.at.returns-in_err-before-clause-value c).Start _ c.«open».ensures in
-    let n : (ran_of (opened a.st a.edition) a.bytes.now).refusal ≡ 0 → ⊥ = λ z. number_ne r.field-0.0.row (r.ensures.row ∙ ap (λ (x : Appended). x.refusal) h ∙ z) in
+    let n : (ran_of (opened a.st a.edition) a.bytes.now).refusal ≡ 0 → ⊥ = λ z. some_row r.field-0.0.row (r.ensures.row ∙ ap (λ (x : Appended). x.refusal) h ∙ z) in
     let e = L.record_stops a.st a.edition a.bytes.now a.closing.kind a.closing.minute a.closing.z _ c.if-target-ne40.false (fits (goal.at.returns-in_err-before-clause-value c).Else-not-records_fit) (closes (goal.at.returns-in_err-before-clause-value c).Else-not-closes) (sound (goal.at.returns-in_err-before-clause-value c).Else-not-ready) (sym c.in_ok-told.ensures) n in
     let p = err_from_is_err_and c.from_residual-in_err-before.result c.from_residual-in_err-before.ensures.1 in
     rw (p.1, p.2) (rw (r.ensures.row, r.ensures.index, h) (sym e))
@@ -123,7 +124,7 @@ returns-in_err-before-clause-target_after c =
     let a = c.args in
     let r = c.in_err-before in
     let h = ran (goal.at.returns-in_err-before-clause-target_after c).Start _ c.«open».ensures in
-    let n : (ran_of (opened a.st a.edition) a.bytes.now).refusal ≡ 0 → ⊥ = λ z. number_ne r.field-0.0.row (r.ensures.row ∙ ap (λ (x : Appended). x.refusal) h ∙ z) in
+    let n : (ran_of (opened a.st a.edition) a.bytes.now).refusal ≡ 0 → ⊥ = λ z. some_row r.field-0.0.row (r.ensures.row ∙ ap (λ (x : Appended). x.refusal) h ∙ z) in
     let e = L.record_stops a.st a.edition a.bytes.now a.closing.kind a.closing.minute a.closing.z _ c.if-target-ne40.false (fits (goal.at.returns-in_err-before-clause-target_after c).Else-not-records_fit) (closes (goal.at.returns-in_err-before-clause-target_after c).Else-not-closes) (sound (goal.at.returns-in_err-before-clause-target_after c).Else-not-ready) (sym c.in_ok-told.ensures) n in
     L.bytes_kept a.st a.edition a.bytes.now a.closing.kind a.closing.minute a.closing.z a.target.now _ e n
 
@@ -135,40 +136,63 @@ close-requires c =
           (L.before_sound a.st a.edition a.bytes.now (search rules) (omega (arith, few (goal.at.close-requires c).Else-not-records_fit)) (sound (goal.at.close-requires c).Else-not-ready)),
     )
 
-pub overflow_cast-bytes : goal.overflow_cast-bytes
-overflow_cast-bytes c = record { fits = omega (arith, few (goal.at.overflow_cast-bytes c).Else-not-records_fit) }
+pub overflow_cast-place : goal.overflow_cast-place
+overflow_cast-place c = record { fits = omega (arith, few (goal.at.overflow_cast-place c).Else-not-records_fit) }
 
-pub returns-in-Ok-clause-value : goal.returns-in-Ok-clause-value
-returns-in-Ok-clause-value c =
+-- what the last call answers: made, or its row at the place past the records
+module _ (r : Result (Unit {0}) Refusal) (x : Result (Unit {0}) Refused) (place : ℕ) where
+  abbrev Told : Type 0
+  Told = MatchResult r (λ u. x ≡ Ok u) (λ e. x ≡ Err (record { row = e; place = Some place }))
+
+value_by : (r : Result (Unit {0}) Refusal) (x : Result (Unit {0}) Refused) (place : ℕ) (m : Made) → Told r x place
+    → (outcome_of r ≡ 0 → m ≡ made 0 255) → ((outcome_of r ≡ 0 → ⊥) → m ≡ made (outcome_of r) place) → made_by x ≡ m
+value_by (Ok u) x place m h f g = ap made_by h ∙ sym (f refl)
+value_by (Err e) x place m h f g = ap made_by h ∙ sym (g (some_row e))
+
+place_by : (r : Result (Unit {0}) Refusal) (x : Result (Unit {0}) Refused) (place : ℕ) → Told r x place → place < 12 → PlaceOfTwelve x
+place_by (Ok u) x place h l = subst PlaceOfTwelve (sym h) tt
+place_by (Err e) x place h l = subst PlaceOfTwelve (sym h) l
+
+bytes_by : (n : ℕ) (t new old end : List ℕ) → t ≡ kept n new old → (n ≡ 0 → new ≡ end) → ((n ≡ 0 → ⊥) → old ≡ end) → t ≡ end
+bytes_by zero t new old end e f g = e ∙ f refl
+bytes_by (suc n) t new old end e f g = let o : suc n ≡ 0 → ⊥ = λ z. omega arith in e ∙ sym (L.kept_old (suc n) new old o) ∙ g o
+
+told : (c : After-map_err) → Told c.close.result c.map_err.result (length c.args.bytes.now / 40)
+told c = search rules
+
+-- the closing's own row, after the records before it
+own : (c : After-map_err) → let a = c.args.closing in
+    outcome_of c.close.result ≡ closing_refusal (facts_of (ran_of (opened c.args.st c.args.edition) c.args.bytes.now).state) a.kind a.minute a.z
+own c =
+    let a = c.args.closing in
+    c.close.ensures.value ∙ ap (λ (s : State). closing_refusal (facts_of s) a.kind a.minute a.z) (after (goal.at.After-map_err c).In_ok-before)
+
+made_is : (c : After-map_err) → outcome_of c.close.result ≡ 0 → let a = c.args in make_of a.st a.edition a.bytes.now a.closing.kind a.closing.minute a.closing.z (length a.target.now) ≡ made 0 255
+made_is c =
     let a = c.args in
-    let e = L.closing_made a.st a.edition a.bytes.now a.closing.kind a.closing.minute a.closing.z _ c.if-target-ne40.false (fits (goal.at.returns-in-Ok-clause-value c).Else-not-records_fit) (closes (goal.at.returns-in-Ok-clause-value c).Else-not-closes) (sound (goal.at.returns-in-Ok-clause-value c).Else-not-ready) (sym c.in_ok-told.ensures) (accepted (goal.at.returns-in-Ok-clause-value c).In_ok-before) 0 (c.in-Ok.ensures.value ∙ (ap (λ (s : State). closing_refusal (facts_of s) a.closing.kind a.closing.minute a.closing.z) (after (goal.at.returns-in-Ok-clause-value c).In_ok-before))) refl in
-    sym e
+    L.closing_made a.st a.edition a.bytes.now a.closing.kind a.closing.minute a.closing.z _ c.if-target-ne40.false (fits (goal.at.After-map_err c).Else-not-records_fit) (closes (goal.at.After-map_err c).Else-not-closes) (sound (goal.at.After-map_err c).Else-not-ready) (sym c.in_ok-told.ensures) (accepted (goal.at.After-map_err c).In_ok-before) (outcome_of c.close.result) (own c)
 
-pub returns-in-Ok-clause-target_after : goal.returns-in-Ok-clause-target_after
-returns-in-Ok-clause-target_after c =
+stopped_is : (c : After-map_err) → (outcome_of c.close.result ≡ 0 → ⊥) → let a = c.args in make_of a.st a.edition a.bytes.now a.closing.kind a.closing.minute a.closing.z (length a.target.now) ≡ made (outcome_of c.close.result) (length a.bytes.now / 40)
+stopped_is c =
     let a = c.args in
-    let e = L.closing_made a.st a.edition a.bytes.now a.closing.kind a.closing.minute a.closing.z _ c.if-target-ne40.false (fits (goal.at.returns-in-Ok-clause-target_after c).Else-not-records_fit) (closes (goal.at.returns-in-Ok-clause-target_after c).Else-not-closes) (sound (goal.at.returns-in-Ok-clause-target_after c).Else-not-ready) (sym c.in_ok-told.ensures) (accepted (goal.at.returns-in-Ok-clause-target_after c).In_ok-before) 0 (c.in-Ok.ensures.value ∙ (ap (λ (s : State). closing_refusal (facts_of s) a.closing.kind a.closing.minute a.closing.z) (after (goal.at.returns-in-Ok-clause-target_after c).In_ok-before))) refl in
-    c.in-Ok.ensures.target_after
-    ∙ ap (λ (s : State). closing_of (facts_of s) a.closing.kind a.closing.minute a.closing.z) (after (goal.at.returns-in-Ok-clause-target_after c).In_ok-before)
-    ∙ L.bytes_made a.st a.edition a.bytes.now a.closing.kind a.closing.minute a.closing.z a.target.now _ e refl
+    L.closing_stops a.st a.edition a.bytes.now a.closing.kind a.closing.minute a.closing.z _ c.if-target-ne40.false (fits (goal.at.After-map_err c).Else-not-records_fit) (closes (goal.at.After-map_err c).Else-not-closes) (sound (goal.at.After-map_err c).Else-not-ready) (sym c.in_ok-told.ensures) (accepted (goal.at.After-map_err c).In_ok-before) (outcome_of c.close.result) (own c)
 
-pub returns-in-Err-clause-value : goal.returns-in-Err-clause-value
-returns-in-Err-clause-value c =
+pub returns-clause-value : goal.returns-clause-value
+returns-clause-value c =
+    let d = (goal.at.returns-clause-value c).After-map_err in
+    value_by c.close.result c.map_err.result _ _ (told d) (made_is d) (stopped_is d)
+
+pub returns-clause-place : goal.returns-clause-place
+returns-clause-place c =
+    let d = (goal.at.returns-clause-place c).After-map_err in
+    place_by c.close.result c.map_err.result _ (told d) (omega (arith, few (goal.at.returns-clause-place c).Else-not-records_fit))
+
+pub returns-clause-target_after : goal.returns-clause-target_after
+returns-clause-target_after c =
     let a = c.args in
-    let r = c.in-Err in
-    let e = L.closing_stops a.st a.edition a.bytes.now a.closing.kind a.closing.minute a.closing.z _ c.if-target-ne40.false (fits (goal.at.returns-in-Err-clause-value c).Else-not-records_fit) (closes (goal.at.returns-in-Err-clause-value c).Else-not-closes) (sound (goal.at.returns-in-Err-clause-value c).Else-not-ready) (sym c.in_ok-told.ensures) (accepted (goal.at.returns-in-Err-clause-value c).In_ok-before) (number_of r.row) (r.ensures.value ∙ (ap (λ (s : State). closing_refusal (facts_of s) a.closing.kind a.closing.minute a.closing.z) (after (goal.at.returns-in-Err-clause-value c).In_ok-before))) (number_ne r.row) in
-    ap (λ (x : Refused). made (number_of x.row) (index_of x.place)) c.at.ensures ∙ sym e
-
-pub returns-in-Err-clause-place : goal.returns-in-Err-clause-place
-returns-in-Err-clause-place c =
-    let n : length c.args.bytes.now / 40 < 12 = omega (arith, few (goal.at.returns-in-Err-clause-place c).Else-not-records_fit) in
-    subst (λ (r : Refused). IfSome r.place (λ place. place < 12)) (sym c.at.ensures) n
-
-pub returns-in-Err-clause-target_after : goal.returns-in-Err-clause-target_after
-returns-in-Err-clause-target_after c =
-    let a = c.args in
-    let r = c.in-Err in
-    let e = L.closing_stops a.st a.edition a.bytes.now a.closing.kind a.closing.minute a.closing.z _ c.if-target-ne40.false (fits (goal.at.returns-in-Err-clause-target_after c).Else-not-records_fit) (closes (goal.at.returns-in-Err-clause-target_after c).Else-not-closes) (sound (goal.at.returns-in-Err-clause-target_after c).Else-not-ready) (sym c.in_ok-told.ensures) (accepted (goal.at.returns-in-Err-clause-target_after c).In_ok-before) (number_of r.row) (r.ensures.value ∙ (ap (λ (s : State). closing_refusal (facts_of s) a.closing.kind a.closing.minute a.closing.z) (after (goal.at.returns-in-Err-clause-target_after c).In_ok-before))) (number_ne r.row) in
-    r.ensures.target_after
-    ∙ sym (L.kept_old _ _ a.target.now (number_ne r.row))
-    ∙ L.bytes_kept a.st a.edition a.bytes.now a.closing.kind a.closing.minute a.closing.z a.target.now _ e (number_ne r.row)
+    let d = (goal.at.returns-clause-target_after c).After-map_err in
+    bytes_by (outcome_of c.close.result) c.close.new.target _ a.target.now _ c.close.ensures.target_after
+    (λ z.
+    ap (λ (s : State). closing_of (facts_of s) a.closing.kind a.closing.minute a.closing.z) (after (goal.at.returns-clause-target_after c).In_ok-before)
+    ∙ L.bytes_made a.st a.edition a.bytes.now a.closing.kind a.closing.minute a.closing.z a.target.now _ (made_is d z) refl)
+    (λ n. L.bytes_kept a.st a.edition a.bytes.now a.closing.kind a.closing.minute a.closing.z a.target.now _ (stopped_is d n) n)

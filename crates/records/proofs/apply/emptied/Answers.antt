@@ -5,4 +5,4 @@ use Rattle.records.proofs.apply.emptied.Goals as goal
 
 pub returns : goal.returns
 unfolding emptied no_pairs
-returns c = rw c.before.before.before.no_pair-w.ensures
+returns c = rw c.no_pair.ensures

@@ -5,4 +5,4 @@ use Rattle.records.proofs.apply.in_week.Goals as goal
 
 pub returns : goal.returns
 unfolding kind minute in_week_of
-returns c = rw c.read32-m.ensures
+returns c = rw c.read32.ensures

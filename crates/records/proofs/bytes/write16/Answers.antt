@@ -3,7 +3,7 @@ use Rattle.std.proofs.Common.{◌≡◌, ◌∙◌, arith}
 use Rattle.std.proofs.lemmas.Grind.{common_steps}
 use Rattle.records.specs.Bytes.{bytes16}
 use Rattle.records.specs.BytesLaws.{bytes16_length}
-use Rattle.records.proofs.LittleEndian.{to_le_bytes_16}
+use Rattle.records.specs.LittleEndian.{to_le_bytes_16}
 use Rattle.records.proofs.bytes.write16.Goals as goal
 
 pub returns : goal.returns

@@ -1,16 +1,20 @@
 -- `checks::misplaced` meets its contract.
-use mathlib.Core.Path.{sym}
-use Rattle.charts.specs.Tests.{if_yes, if_no}
+use Rattle.std.proofs.Common.{◌≡◌, Bool, true, false, not, refl}
+use Rattle.std.specs.Prelude.{if◌then◌else◌}
+use mathlib.Core.Bool.{beq}
 use Rattle.records.specs.Record.{kind}
 use Rattle.records.specs.Kinds.{sets}
 use Rattle.records.specs.Table.{misplaced}
 use Rattle.records.specs.State.{facts_of}
 use Rattle.records.proofs.checks.misplaced.Goals as goal
 
-pub returns-then-st : goal.returns-then-st
-unfolding misplaced facts_of sets kind
-returns-then-st c = sym (if_yes c.args.st.begun _ _ c.if-st.true)
+-- a test by another is whether the two agree
+agree : (b s : Bool) → beq b s ≡ (if b then s else not s)
+agree true true = refl
+agree true false = refl
+agree false true = refl
+agree false false = refl
 
 pub returns : goal.returns
 unfolding misplaced facts_of sets kind
-returns c = sym (if_no c.args.st.begun _ _ c.if-st.false)
+returns c = agree _ _

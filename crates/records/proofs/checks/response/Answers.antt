@@ -9,8 +9,8 @@ use Rattle.records.proofs.checks.response.Goals as goal
 
 pub returns-then-s-eq0 : goal.returns-then-s-eq0
 unfolding response_of
-returns-then-s-eq0 c = (sym (if_yes (eqb c.before.before.args.s.response 0) _ _ (eq-eqb _ _ c.if-s-eq0.true)), omega arith)
+returns-then-s-eq0 c = (sym (if_yes (eqb c.args.s.response 0) _ _ (eq-eqb _ _ c.if-s-eq0.true)), omega arith)
 
-pub returns : goal.returns
+pub returns-else-s-eq0 : goal.returns-else-s-eq0
 unfolding response_of
-returns c = (sym (if_no (eqb c.before.before.args.s.response 0) _ _ (ne_eqb _ _ c.if-s-eq0.false)), c.before.before.requires.response)
+returns-else-s-eq0 c = (sym (if_no (eqb c.args.s.response 0) _ _ (ne_eqb _ _ c.if-s-eq0.false)), c.requires.response)

@@ -1,18 +1,16 @@
 -- `checks::times_fit` meets its contract.
-use mathlib.Core.Path.{◌≡◌, refl, sym, ap, ◌∙◌}
+use mathlib.Core.Path.{◌≡◌, refl, sym, ◌∙◌}
 use mathlib.Core.Bool.{Bool, ◌&&◌}
 use mathlib.Core.Option.{Option}
-use Prim.Native.Nat.{ℕ, ◌*◌, ◌-◌}
-use native.Mathlib.Omega.{arith}
+use Prim.Native.Nat.{◌*◌, ◌-◌}
 use lib.ListN.{take}
 use lib.Dec.{leb}
 use borrow.Author.Tests.{le-leb, lt-leb}
 use Rattle.records.specs.Record.{minute}
 use Rattle.records.specs.Table.{times_fit, follows, last_of}
 use Rattle.records.specs.State.{facts_of}
-use Rattle.records.specs.ListLaws.{last_of_lem, sound_at}
+use Rattle.records.proofs.PairLaws.{last_none, last_some, last_sound}
 use Rattle.records.specs.declared.state.Waiting.{Waiting}
-use Rattle.records.proofs.StateLaws.{thirty}
 use Rattle.records.proofs.checks.times_fit.Goals as goal
 use Rattle.records.proofs.checks.times_fit.Goals.{After-response, Else-m-l}
 
@@ -40,18 +38,13 @@ by_last : (c : Else-m-l) {o : Option Waiting}
     last_of (take a.st.pending a.st.pairs) ≡ o → times_fit (facts_of a.st) a.r.now ≡ follows o (m - k) k
 by_last c e = whole c.before.before (le-leb _ _ c.if-l-response.false) (le-leb _ _ c.if-m-l.false) ∙ rw e
 
-pub returns-then-n-eq0 : goal.returns-then-n-eq0
+pub returns-in-None : goal.returns-in-None
 unfolding follows
-returns-then-n-eq0 c =
-    sym (by_last (goal.at.returns-then-n-eq0 c).Else-m-l (ap (λ (n : ℕ). last_of (take n c.args.st.pairs)) c.if-n-eq0.true))
+returns-in-None c = sym (by_last (goal.at.returns-in-None c).Else-m-l (last_none (take c.args.st.pending c.args.st.pairs) c.in-None.ensures.value))
 
 pub follows-requires : goal.follows-requires
-follows-requires c =
-    let st = c.args.st in
-    (sound_at st.pairs st.pending (st.pending - 1) _ (omega arith) (omega (arith, thirty st _ c.well_formed.0)) c.requires.0.pairs).start
+follows-requires c = (last_sound (take c.args.st.pending c.args.st.pairs) _ c.in-Some.ensures.value c.requires.0.pairs).start
 
-pub returns : goal.returns
+pub returns-in-Some : goal.returns-in-Some
 unfolding follows
-returns c =
-    let st = c.args.st in
-    c.follows.ensures ∙ sym (by_last (goal.at.returns c).Else-m-l (last_of_lem st.pairs st.pending _ (omega arith) (omega (arith, thirty st _ c.well_formed.0))))
+returns-in-Some c = c.follows.ensures ∙ sym (by_last (goal.at.returns-in-Some c).Else-m-l (last_some (take c.args.st.pending c.args.st.pairs) _ c.in-Some.ensures.value))

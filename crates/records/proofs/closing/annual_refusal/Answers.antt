@@ -14,7 +14,7 @@ use Rattle.calibration.specs.Outcomes.{Tested, tested, refused_test}
 use Rattle.records.specs.Record.{Record}
 use Rattle.records.specs.Table.{Facts, annual_of, annual_refusal, stores_test}
 use Rattle.records.specs.State.{facts_of}
-use Rattle.records.proofs.OutcomeLaws.{some_row, passed_on}
+use Rattle.refusals.proofs.RowLaws.{some_row, passed_on}
 use Rattle.records.specs.declared.state.State.{State}
 use Rattle.records.proofs.StateLaws.{thirty}
 use Rattle.records.proofs.closing.annual_refusal.Goals as goal

@@ -17,7 +17,7 @@ use Rattle.records.specs.Record.{Record, z_of}
 use Rattle.records.specs.Table.{Facts, calibration_of, calibration_refusal, stores_fit}
 use Rattle.records.proofs.TableLaws.{calibration_count}
 use Rattle.records.specs.State.{facts_of}
-use Rattle.records.proofs.OutcomeLaws.{some_row, passed_on}
+use Rattle.refusals.proofs.RowLaws.{some_row, passed_on}
 use Rattle.records.proofs.SignedLaws.{given}
 use Rattle.records.proofs.closing.calibration_refusal.Goals as goal
 use Rattle.records.proofs.closing.calibration_refusal.Goals.{Start, After-field_at, After-stores_fit}

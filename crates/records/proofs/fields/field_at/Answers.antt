@@ -3,7 +3,7 @@ use Rattle.std.proofs.Common.{List, ℕ, ◌∙◌, ap}
 use Rattle.std.specs.Int.{w32, cast_signed, from_le_bytes}
 use Rattle.records.specs.Bytes.{le32}
 use Rattle.records.specs.Record.{field}
-use Rattle.records.proofs.LittleEndian.{from_le_bytes_32, cast_signed_32}
+use Rattle.records.specs.LittleEndian.{from_le_bytes_32, cast_signed_32}
 use Rattle.records.proofs.SignedLaws.{given}
 use Rattle.records.proofs.fields.field_at.Goals as goal
 

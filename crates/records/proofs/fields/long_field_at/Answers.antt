@@ -3,7 +3,7 @@ use Rattle.std.proofs.Common.{List, ℕ, ◌+◌, ◌*◌, ◌∙◌, ap}
 use Rattle.std.specs.Int.{w64, cast_signed, from_le_bytes}
 use Rattle.records.specs.Bytes.{le32}
 use Rattle.records.specs.Record.{long_field}
-use Rattle.records.proofs.LittleEndian.{from_le_bytes_64, cast_signed_64}
+use Rattle.records.specs.LittleEndian.{from_le_bytes_64, cast_signed_64}
 use Rattle.records.proofs.SignedLaws.{given}
 use Rattle.records.proofs.fields.long_field_at.Goals as goal
 

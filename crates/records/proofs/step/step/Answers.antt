@@ -8,7 +8,7 @@ use Rattle.records.specs.Record.{Record}
 use Rattle.records.specs.Table.{refusal_in}
 use Rattle.records.specs.State.{facts_of, applied_to, step_of}
 use Rattle.records.specs.declared.state.State.{State}
-use Rattle.records.proofs.OutcomeLaws.{some_row, passed_on}
+use Rattle.refusals.proofs.RowLaws.{some_row, passed_on}
 use Rattle.records.proofs.step.step.Goals as goal
 
 -- the definition by its test

@@ -1,0 +1,17 @@
+-- `calibration::Sample::measured` meets its contract.
+use Rattle.std.proofs.Common.{ap, ◌∙◌, arith}
+use Rattle.std.specs.Prelude.{ℤ}
+use Rattle.calibration.specs.Conditions.{standard_of}
+use Rattle.calibration.specs.PairLaws.{between_abs, oxygen_reads}
+use Rattle.calibration.proofs.SampleLaws.{required}
+use Rattle.calibration.proofs.Sample.measured.Goals as goal
+
+pub standard_conditions-requires : goal.standard_conditions-requires
+standard_conditions-requires c =
+    let Q = required c.args.self.basis.requirements c.args.self.required in
+    (rw (oxygen_reads Q) Q.oxygen, c.requires.conditions, omega (arith, between_abs c.requires.srm))
+
+pub returns : goal.returns
+returns c =
+    let Q = required c.args.self.basis.requirements c.args.self.required in
+    c.standard_conditions.ensures ∙ ap (λ (o : ℤ). standard_of c.args.self.basis.edition o c.args.p.conditions c.args.p.srm) (oxygen_reads Q)

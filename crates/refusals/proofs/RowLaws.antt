@@ -1,0 +1,106 @@
+-- Rows and their numbers: no two rows have one number, and none has 0, which stands for no refusal.
+use Rattle.std.proofs.Common.{◌≡◌, refl, ap, sym, ◌∙◌, false, ℕ}
+use Rattle.std.specs.Prelude.{eqb, Result, Ok, Err, IsErrAnd, if◌then◌else◌}
+use Rattle.std.proofs.lemmas.Bool.{false≢true}
+use Rattle.refusals.specs.Rows.{number_of, outcome_of}
+use Rattle.refusals.specs.declared.Refusal.{Refusal}
+use Rattle.refusals.specs.declared.Refusal.TheVariants.{Length, Check, Header, Analyser, Sequence, Records, State, Layout, Place, Minute, Range, Unstarted, Full, Times, Coverage, Waiting, Function, Count, Days, Divisor, Slope, Beyond, Stored, Edition}
+
+-- the row of a number
+abbrev pub row : ℕ → Refusal
+row n =
+    if eqb n 1 then Length else (
+    if eqb n 2 then Check else (
+    if eqb n 3 then Header else (
+    if eqb n 4 then Analyser else (
+    if eqb n 5 then Sequence else (
+    if eqb n 6 then Records else (
+    if eqb n 7 then State else (
+    if eqb n 10 then Layout else (
+    if eqb n 11 then Place else (
+    if eqb n 12 then Minute else (
+    if eqb n 13 then Range else (
+    if eqb n 14 then Unstarted else (
+    if eqb n 15 then Full else (
+    if eqb n 16 then Times else (
+    if eqb n 17 then Coverage else (
+    if eqb n 18 then Waiting else (
+    if eqb n 19 then Function else (
+    if eqb n 20 then Count else (
+    if eqb n 21 then Days else (
+    if eqb n 22 then Divisor else (
+    if eqb n 23 then Slope else (
+    if eqb n 24 then Beyond else (
+    if eqb n 25 then Stored else (
+    Edition)))))))))))))))))))))))
+
+pub row_is : (e : Refusal) → row (number_of e) ≡ e
+row_is Length = refl
+row_is Check = refl
+row_is Header = refl
+row_is Analyser = refl
+row_is Sequence = refl
+row_is Records = refl
+row_is State = refl
+row_is Layout = refl
+row_is Place = refl
+row_is Minute = refl
+row_is Range = refl
+row_is Unstarted = refl
+row_is Full = refl
+row_is Times = refl
+row_is Coverage = refl
+row_is Waiting = refl
+row_is Function = refl
+row_is Count = refl
+row_is Days = refl
+row_is Divisor = refl
+row_is Slope = refl
+row_is Beyond = refl
+row_is Stored = refl
+row_is Edition = refl
+
+-- none has the number of no refusal
+pub above : (e : Refusal) → eqb (number_of e) 0 ≡ false
+above Length = refl
+above Check = refl
+above Header = refl
+above Analyser = refl
+above Sequence = refl
+above Records = refl
+above State = refl
+above Layout = refl
+above Place = refl
+above Minute = refl
+above Range = refl
+above Unstarted = refl
+above Full = refl
+above Times = refl
+above Coverage = refl
+above Waiting = refl
+above Function = refl
+above Count = refl
+above Days = refl
+above Divisor = refl
+above Slope = refl
+above Beyond = refl
+above Stored = refl
+above Edition = refl
+
+pub some_row : (e : Refusal) → number_of e ≡ 0 → ⊥
+some_row e h = false≢true (sym (rw h at (above e)))
+
+pub number_same : (d e : Refusal) → number_of d ≡ number_of e → d ≡ e
+number_same d e h = sym (row_is d) ∙ ap row h ∙ row_is e
+
+-- so an outcome says all of an answer that has no value
+pub outcome_same : (x y : Result (Unit {0}) Refusal) → outcome_of x ≡ outcome_of y → x ≡ y
+outcome_same (Ok a) (Ok b) h = refl
+outcome_same (Ok a) (Err e) h = absurd (some_row e (sym h))
+outcome_same (Err d) (Ok b) h = absurd (some_row d h)
+outcome_same (Err d) (Err e) h = ap Err (number_same d e h)
+
+-- what a `?` passes on is the refusal that it was given
+pub passed_on : {A : Type 0} (x : Result A Refusal) (e : Refusal) → IsErrAnd x (λ d. d ≡ e) → x ≡ Err e
+passed_on (Ok a) e h = absurd h
+passed_on (Err d) e h = ap Err h
