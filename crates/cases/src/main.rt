@@ -6,22 +6,26 @@
 // (sum, count + 1) where the sum is above 0, else (0, 0)).
 // The cases of records are the lines of the file `stdin`, a script. What they must give was worked out by a second reader of that script in
 // Python, which goes by the papers on records, weeks, calls and refusals, and knows nothing of this code.
+mod bench;
 mod calibration_cases;
 mod charts_cases;
 mod lent_cases;
 mod print;
 mod rounding_cases;
 mod script;
-mod script_file;
+mod script_command;
+mod script_desk;
 mod script_record;
 mod script_words;
 
+use bench::Bench;
 use std::io;
 
 // The cases of every layer below the records.
 fn layers(rt: &impl Print, edition: u8) -> io::Result<()> {
-    rounding_cases::run(rt, edition)?;
-    charts_cases::run(rt, edition)?;
+    let bench = Bench { rt, edition };
+    bench.rounding()?;
+    bench.charts()?;
     calibration_cases::run(rt, edition)?;
     lent_cases::run(rt, edition)
 }

@@ -1,0 +1,36 @@
+// What the cases of every layer are run on, and how an answer is printed.
+use charts::Alarms;
+use std::fmt;
+
+// The edition that cases are run in, and where their lines are printed.
+#[derive(Drop)]
+pub struct Bench<'a, R> {
+    pub rt: &'a R,
+    pub edition: u8,
+}
+
+// A value, or a word for none.
+#[derive(Drop)]
+pub struct Or<'a, T>(pub Option<T>, pub &'a str);
+
+impl<T: fmt::Display> fmt::Display for Or<'_, T> {
+    fn fmt<W: fmt::Write>(&self, f: &mut fmt::Formatter<W>) -> fmt::Result {
+        match &self.0 {
+            Some(x) => write!(f, "{x}"),
+            None => write!(f, "{}", self.1),
+        }
+    }
+}
+
+// 1 for each alarm that is on: the rising, the falling and the precision alarm.
+#[derive(Clone, Copy)]
+pub struct Flags(pub Alarms);
+
+impl fmt::Display for Flags {
+    fn fmt<W: fmt::Write>(&self, f: &mut fmt::Formatter<W>) -> fmt::Result {
+        for alarm in [self.0.rising, self.0.falling, self.0.precision] {
+            write!(f, "{}", u8::from(alarm))?;
+        }
+        Ok(())
+    }
+}
