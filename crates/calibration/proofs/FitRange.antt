@@ -11,7 +11,7 @@ use Rattle.calibration.proofs.VerdictLaws.{count_above}
 use Rattle.calibration.specs.declared.Pair.{Pair}
 use Rattle.calibration.specs.declared.Requirements.{Requirements}
 use Rattle.calibration.specs.declared.Line.{Line}
-use Rattle.calibration.specs.declared.Fitted.{Fitted}
+use Rattle.calibration.specs.Outcomes.{Fitted}
 
 -- not refused, and then with a function in range
 abbrev Ranges : Fitted → Type 0

@@ -1,5 +1,5 @@
 -- Where no value is beyond ±10,000,000: how large the top is, and residuals, made pair by pair, with the size of their sums.
-use Rattle.std.specs.Prelude.{◌≡◌, refl, Bool, true, false, ◌||◌, ℕ, suc, ◌+◌, ◌*◌, ◌≤◌, ◌<◌, T, eqb, ℤ, pos, neg_ℤ, nat_abs, ◌+ℤ◌, ◌-ℤ◌, ◌*ℤ◌, length, take, get_or}
+use Rattle.std.specs.Prelude.{◌≡◌, refl, Bool, true, false, ◌||◌, ℕ, suc, ◌+◌, ◌*◌, ◌≤◌, ◌<◌, T, eqb, ℤ, pos, neg_ℤ, nat_abs, ◌+ℤ◌, ◌-ℤ◌, ◌*ℤ◌, length, get_or}
 use Rattle.std.proofs.Math.Path.{sym, ap}
 use Rattle.std.proofs.Common.{subst, ◌∙◌, true≢false, arith}
 use mathlib.Core.List.{List, [], ◌∷◌, foldl, map}
@@ -13,7 +13,7 @@ use Rattle.calibration.specs.PairLaws.{between_abs}
 use Rattle.calibration.specs.Calibration.{measured_of, c_of, far_of, beyond_of, some_beyond, higher_of, share_of, top_of, span_from, span_of, total, squares, deviations_of, residuals_of}
 use Rattle.calibration.specs.CodeLaws.{with_residual_of}
 use Rattle.calibration.proofs.FitLaws.{product_size}
-use Rattle.calibration.specs.ListLaws.{member, unset}
+use Rattle.calibration.specs.ListLaws.{at, unset}
 use Rattle.calibration.specs.SpanLaws.{higher_has, higher_same, span_high}
 use Rattle.calibration.specs.declared.Line.{Line}
 use Rattle.calibration.specs.declared.Pair.{Pair}
@@ -87,11 +87,10 @@ module _ (edition : ℕ) (reference : ℤ) (l : Line) where
   unfolding beyond_of
   pair_near p h = neither (far_of (measured_of edition reference p)) (far_of (c_of edition reference l p)) h
 
-  pub near_at : (xs : List Pair) (n : ℕ) → n ≤ length xs → some_beyond edition reference l (take n xs) ≡ false
-      → (i : ℕ) → i < n → beyond_of edition reference l (get_or xs i unset) ≡ false
-  near_at xs n N B i h =
-      member xs n N (λ ps. some_beyond edition reference l ps ≡ false) (λ p. beyond_of edition reference l p ≡ false)
-      (λ p ps b. neither (beyond_of edition reference l p) (some_beyond edition reference l ps) b) B i unset h
+  pub near_at : (ps : List Pair) (i : ℕ) → i < length ps → some_beyond edition reference l ps ≡ false → beyond_of edition reference l (get_or ps i unset) ≡ false
+  near_at ps i h B =
+      at (λ ps. some_beyond edition reference l ps ≡ false) (λ p. beyond_of edition reference l p ≡ false)
+      (λ p ps b. neither (beyond_of edition reference l p) (some_beyond edition reference l ps) b) ps i unset h B
 
   -- from r on, the greatest c and each sum take in what follows
   from : (r : Residuals) (ps : List Pair)

@@ -1,11 +1,11 @@
 -- Paper 01, 'Annual test (8.4, 8.5)', and paper 02, C-12. The definitions are those of the calibration, with the function in force.
-use Rattle.std.specs.Prelude.{Bool, false, not, ◌&&◌, ◌||◌, List, ℕ, ◌-◌, ◌*◌, leb, eqb, ℤ, pos, nat_abs, ◌-ℤ◌, ◌*ℤ◌, length, if◌then◌else◌}
+use Rattle.std.specs.Prelude.{Bool, not, ◌&&◌, ◌||◌, List, ℕ, ◌-◌, ◌*◌, leb, eqb, ℤ, pos, nat_abs, ◌-ℤ◌, ◌*ℤ◌, length, if◌then◌else◌}
 use Rattle.std.specs.Int.Signed.{le_z}
 use Rattle.calibration.specs.Calibration.{some_beyond, deviations_of, total, q_of}
 use Rattle.calibration.specs.declared.Pair.{Pair}
 use Rattle.calibration.specs.declared.Requirements.{Requirements}
 use Rattle.calibration.specs.declared.Line.{Line}
-use Rattle.calibration.specs.declared.Tested.{Tested}
+pub use Rattle.calibration.specs.Outcomes.{Tested, refused_test}
 
 -- the counts that an annual test may have
 unfoldable pub annual_count_fits : ℕ → Bool
@@ -36,9 +36,6 @@ unfoldable pub function_of : ℕ → ℤ → ℤ → ℤ → Bool
 function_of n sum q σ =
     let l : ℤ = pos (nat_abs sum) -ℤ pos n *ℤ σ in
     le_z l (pos 0) || le_z (pos (n - 1) *ℤ (l *ℤ l) *ℤ pos 1000000) (pos (t_of n * t_of n) *ℤ q)
-
-abbrev pub refused_test : ℕ → Tested
-refused_test refusal = record { refusal = refusal; variability = false; function = false }
 
 -- the outcome: refusals 20 and 24 in this order, or the two verdicts
 unfoldable pub test_of : ℕ → Requirements → Line → List Pair → Tested

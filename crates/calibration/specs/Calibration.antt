@@ -14,7 +14,7 @@ use Rattle.calibration.specs.declared.Line.{Line}
 use Rattle.calibration.specs.declared.Sums.{Sums}
 use Rattle.calibration.specs.declared.Span.{Span}
 use Rattle.calibration.specs.declared.Residuals.{Residuals}
-use Rattle.calibration.specs.declared.Fitted.{Fitted}
+pub use Rattle.calibration.specs.Outcomes.{Fitted, refused_fit}
 
 -- ---- sums over a list of pairs, oldest first
 
@@ -191,16 +191,6 @@ unfoldable pub varied_of : ℕ → ℤ → ℤ → Bool
 varied_of n q σ = le_z (pos 100000000 *ℤ q) (pos (n * (n - 1)) *ℤ (σ *ℤ σ) *ℤ pos (k_of n * k_of n))
 
 -- ---- the outcome: refusals 20, 22, 23 and 24 in this order, or the figures and the verdict
-
--- refused: every figure is 0
-abbrev pub refused_fit : ℕ → Fitted
-refused_fit refusal = record {
-  refusal = refusal;
-  passed = false;
-  line = record { slope = pos 0; intercept = pos 0 };
-  top = record { 0 = pos 0 };
-  count = 0;
-}
 
 -- the function stands: 24, or the verdict
 unfoldable pub line_fits : ℕ → Requirements → List Pair → Line → Fitted

@@ -1,5 +1,5 @@
 -- The formulas as the code works them out, and the ranges in which its arithmetic fits.
-use Rattle.std.specs.Prelude.{◌≡◌, Bool, true, false, ℕ, ◌+◌, ◌-◌, ◌*◌, ◌/◌, ◌%◌, ◌≤◌, ◌<◌, T, leb, ℤ, neg_ℤ, nat_abs, ◌+ℤ◌, ◌-ℤ◌, ◌*ℤ◌, ◌<ℤ◌, if◌then◌else◌}
+use Rattle.std.specs.Prelude.{◌≡◌, Bool, true, false, ℕ, ◌+◌, ◌-◌, ◌*◌, ◌/◌, ◌%◌, ◌≤◌, ◌<◌, T, leb, ℤ, neg_ℤ, nat_abs, Option, Some, None, ◌+ℤ◌, ◌-ℤ◌, ◌*ℤ◌, ◌<ℤ◌, if◌then◌else◌}
 use Rattle.std.proofs.Math.Path.{refl}
 use Rattle.std.proofs.Common.{sym, ap, subst, ◌∙◌, arith, le-div_iff_mul-le, div-add-mod'}
 use borrow.Author.Tests.{lt-leb}
@@ -24,11 +24,11 @@ pub record SumsRanged (u : Sums) : Type 0 where
   pub xy : Between (pos 0) (pos (160000000000 * u.n)) u.xy
   pub xx : Between (pos 0) (pos (160000000000 * u.n)) u.xx
 
--- B where it is in its range, else 0
-unfoldable pub slope_code : ℕ → ℤ → ℤ → ℤ
+-- B where it is in its range
+unfoldable pub slope_code : ℕ → ℤ → ℤ → Option ℤ
 slope_code edition rise divisor =
-    if slope_ranged_of (near_of edition (pos 100000 *ℤ rise) divisor) then near_of edition (pos 100000 *ℤ rise) divisor
-    else pos 0
+    if slope_ranged_of (near_of edition (pos 100000 *ℤ rise) divisor) then Some (near_of edition (pos 100000 *ℤ rise) divisor)
+    else None
 
 -- one pair more in the residuals
 unfoldable pub with_residual_of : Residuals → Standard → Standard → Residuals
@@ -71,36 +71,37 @@ module _ (n : ℕ) (sum : ℤ) (q σ : ℕ) where
       let e : pos (nat_abs sum) -ℤ pos (n * σ) ≡ pos (nat_abs sum - n * σ) = ud_eq (omega (arith, diff (pos (nat_abs sum)) (pos (n * σ)))) in
       rw (e, lt-leb (nat_abs sum - n * σ) 0 (omega arith))
 
--- ---- the code's B: 0 exactly where B is outside its range
-refused : (b : ℤ) (t : Bool) → slope_ranged_of b ≡ t → (if t then b else pos 0) ≡ pos 0 → t ≡ false
-refused b true r e = absurd (omega (arith, le_ud ((between_answers (pos 1) (pos 1000000) b).sure (subst T (sym r) tt)).low, eq_ud e))
-refused b false r e = refl
-
-taken : (b : ℤ) (t : Bool) → ((if t then b else pos 0) ≡ pos 0 → ⊥) → (t ≡ true) × ((if t then b else pos 0) ≡ b)
-taken b true h = (refl, refl)
-taken b false h = absurd (h refl)
-
+-- ---- the code's B: none exactly where B is outside its range
 module _ (edition : ℕ) (rise divisor : ℤ) where
   abbrev b : ℤ
   b = near_of edition (pos 100000 *ℤ rise) divisor
 
   -- by the test of B
-  pub slope_in : slope_ranged_of b ≡ true → slope_code edition rise divisor ≡ b
+  pub slope_in : slope_ranged_of b ≡ true → slope_code edition rise divisor ≡ Some b
   unfolding slope_code
   slope_in t = if_yes _ _ _ t
 
-  pub slope_out : slope_ranged_of b ≡ false → slope_code edition rise divisor ≡ pos 0
+  pub slope_out : slope_ranged_of b ≡ false → slope_code edition rise divisor ≡ None
   unfolding slope_code
   slope_out t = if_no _ _ _ t
 
-  -- and back
-  pub slope_refused : slope_code edition rise divisor ≡ pos 0 → slope_ranged_of b ≡ false
-  unfolding slope_code
-  slope_refused e = refused b (slope_ranged_of b) refl e
+-- and back
+refused : (b : ℤ) (t : Bool) → (if t then Some b else None) ≡ None → t ≡ false
+refused b true e = cc
+refused b false e = refl
 
-  pub slope_taken : (slope_code edition rise divisor ≡ pos 0 → ⊥) → (slope_ranged_of b ≡ true) × (slope_code edition rise divisor ≡ b)
+taken : (b m : ℤ) (t : Bool) → (if t then Some b else None) ≡ Some m → (t ≡ true) × (m ≡ b)
+taken b m true e = (refl, cc)
+taken b m false e = cc
+
+module _ (edition : ℕ) (rise divisor : ℤ) where
+  pub slope_refused : slope_code edition rise divisor ≡ None → slope_ranged_of (b edition rise divisor) ≡ false
   unfolding slope_code
-  slope_taken h = taken b (slope_ranged_of b) h
+  slope_refused e = refused (b edition rise divisor) (slope_ranged_of (b edition rise divisor)) e
+
+  pub slope_taken : {m : ℤ} → slope_code edition rise divisor ≡ Some m → (slope_ranged_of (b edition rise divisor) ≡ true) × (m ≡ b edition rise divisor)
+  unfolding slope_code
+  slope_taken {m} e = taken (b edition rise divisor) m (slope_ranged_of (b edition rise divisor)) e
 
 -- ---- B from the whole part k of rise / divisor, and its rest
 module _ (edition : ℕ) (rise divisor : ℤ) {k rest : ℤ} (h : pos 0 <ℤ divisor) (D : Divided rise divisor k rest) where
@@ -148,7 +149,7 @@ module _ (edition : ℕ) (rise divisor : ℤ) {k rest : ℤ} (h : pos 0 <ℤ div
       record { low = ud_le (omega arith); high = ud_le (omega arith) }
 
   -- and a k outside them has no B in its range
-  pub slope_far : between_of (neg_ℤ (pos 1)) (pos 10) k ≡ false → slope_code edition rise divisor ≡ pos 0
+  pub slope_far : between_of (neg_ℤ (pos 1)) (pos 10) k ≡ false → slope_code edition rise divisor ≡ None
   slope_far o = slope_out edition rise divisor (go (slope_ranged_of v) refl)
     where
       v : ℤ

@@ -8,7 +8,7 @@ use Rattle.calibration.specs.Calibration.{refused_fit, fit_of}
 use Rattle.calibration.specs.declared.Pair.{Pair}
 use Rattle.calibration.specs.declared.Basis.{Basis}
 use Rattle.calibration.specs.declared.Requirements.{Requirements}
-use Rattle.calibration.specs.declared.Fitted.{Fitted}
+use Rattle.calibration.specs.Outcomes.{Fitted}
 
 -- every pair of a list is in range
 abbrev pub all_ranged_of : List Pair → Bool

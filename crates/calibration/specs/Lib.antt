@@ -1,5 +1,6 @@
 pub mod Pairs
 pub mod Conditions
+pub mod Outcomes
 pub mod Calibration
 pub mod Annual
 pub mod LentList
@@ -8,5 +9,4 @@ pub mod CodeLaws
 pub mod ListLaws
 pub mod SpanLaws
 pub mod DispersionLaws
-pub mod LentListLaws
 pub mod ConditionLaws

@@ -5,7 +5,7 @@ use Rattle.calibration.specs.Pairs.{PairRanged, AllRanged}
 use Rattle.calibration.specs.declared.Pair.{Pair}
 
 -- where P of a list says Q of its head and P of its tail, it says Q of each member
-at : {A : Type 0} (P : List A → Type 0) (Q : A → Type 0) → ((a : A) (l : List A) → P (a ∷ l) → Q a × P l)
+pub at : {A : Type 0} (P : List A → Type 0) (Q : A → Type 0) → ((a : A) (l : List A) → P (a ∷ l) → Q a × P l)
     → (l : List A) (i : ℕ) (d : A) → i < length l → P l → Q (get_or l i d)
 at P Q step [] i d h p = absurd (omega arith)
 at P Q step (a ∷ l) zero d h p = (step a l p).0
@@ -37,5 +37,9 @@ unset = record {
   conditions = record { temperature = pos 0; pressure = pos 0; water = pos 0; oxygen = pos 0 };
 }
 
-pub pair_ranged : (xs : List Pair) (n : ℕ) → n ≤ length xs → AllRanged (take n xs) → (i : ℕ) → i < n → PairRanged (get_or xs i unset)
-pair_ranged xs n N P i h = member xs n N AllRanged PairRanged (λ p ps r. r) P i unset h
+-- a list from i on: the pair at i, then what is left from i + 1 on
+pub next_pair : (ps : List Pair) (i : ℕ) → i < length ps → drop i ps ≡ get_or ps i unset ∷ drop (i + 1) ps
+next_pair ps i h = drop-cons ps i unset h ∙ rw (add-one i)
+
+pub ranged_at : (ps : List Pair) (i : ℕ) → i < length ps → AllRanged ps → PairRanged (get_or ps i unset)
+ranged_at ps i h P = at AllRanged PairRanged (λ p ps r. r) ps i unset h P

@@ -1,14 +1,17 @@
 #![tactic(auto)]
 
-ghost use Rattle.std.specs.Prelude.{◌≡◌, true, false, ◌+◌, ◌-◌, ◌*◌, ◌<◌, ◌≤◌, ◌^◌, leb, pos, negsuc, nat_abs, ◌+ℤ◌, ◌-ℤ◌, ◌*ℤ◌, ◌<ℤ◌, ◌≤ℤ◌, take, length, if◌then◌else◌};
+ghost use Rattle.std.specs.Prelude.{◌≡◌, true, false, ◌+◌, ◌-◌, ◌*◌, ◌<◌, ◌≤◌, ◌^◌, leb, pos, negsuc, nat_abs, ◌+ℤ◌, ◌-ℤ◌, ◌*ℤ◌, ◌<ℤ◌, ◌≤ℤ◌, length, if◌then◌else◌};
 ghost use Rattle.std.specs.Int.Signed.{le_z};
+ghost use Rattle.std.specs.List.{list_all};
 ghost use Rattle.calibration.specs.Conditions.{standard_of, times_of};
 ghost use Rattle.calibration.specs.Pairs.{AllRanged, Between, ConditionsRanged, OxygenRanged, PairRanged, RequirementsRanged, ZRanged, between_of, conditions_ranged_of, pair_ranged_of, requirements_ranged_of, z_ranged_of};
-ghost use Rattle.calibration.specs.Calibration.{LineRanged, beyond_of, c_of, calibrated_of, count_fits, deviations_of, divisor_of, far_of, fit_from, fit_of, flat_of, higher_of, intercept_of, k_of, line_fits, line_ranged_of, lower_of, measured_of, plus_of, q_of, refused_fit, residuals_of, rise_of, share_of, slope_of, slope_ranged_of, some_beyond, span_of, sums_of, top_of, value_of, varied_of, widened_of};
-ghost use Rattle.calibration.specs.Annual.{annual_count_fits, annual_k_of, annual_varied_of, function_of, refused_test, t_of, test_of};
-ghost use Rattle.calibration.specs.LentList.{fit_list_of};
-ghost use Rattle.calibration.specs.LentListLaws.{gather_of, gathered_fit, gathered_none};
+ghost use Rattle.calibration.specs.Calibration.{LineRanged, beyond_of, c_of, calibrated_of, count_fits, deviations_of, divisor_of, far_of, fit_from, fit_of, flat_of, higher_of, intercept_of, k_of, line_fits, line_ranged_of, lower_of, measured_of, plus_of, q_of, residuals_of, rise_of, share_of, slope_of, slope_ranged_of, some_beyond, span_of, sums_of, top_of, value_of, varied_of, widened_of};
+ghost use Rattle.calibration.specs.Annual.{annual_count_fits, annual_k_of, annual_varied_of, function_of, t_of, test_of};
+ghost use Rattle.calibration.specs.Outcomes.{fitted, tested};
+ghost use Rattle.calibration.specs.LentList.{all_ranged_of, fit_list_of};
 ghost use Rattle.calibration.specs.CodeLaws.{SumsRanged, dispersion_of, slope_code, with_residual_of};
+
+use refusals::Refusal;
 
 // A concentration in analyser conditions.
 #[derive(Clone, Copy)]
@@ -43,7 +46,7 @@ pub struct Requirements {
     pub oxygen: i32,
 }
 
-// What a lent list of pairs comes with, beside Z: the edition to round by, and E, σ and the reference oxygen.
+// What pairs are worked out by: the edition to round by, and E, σ and the reference oxygen.
 #[derive(Clone, Copy)]
 pub struct Basis {
     pub edition: u8,
@@ -58,7 +61,7 @@ pub struct Line {
 }
 
 // N, Σx, Σy, Σxy and Σx².
-#[derive(Clone, Copy)]
+#[derive(Clone, Copy, Default)]
 pub struct Sums {
     pub n: u32,
     pub x: i64,
@@ -82,28 +85,18 @@ pub struct Residuals {
     pub squares: i64,
 }
 
-// The outcome of a fit: a refusal (0 for none), or the verdict, the function, its top and N.
+// The figures of a calibration: the verdict, the function, its top and N.
 #[derive(Clone, Copy)]
-pub struct Fitted {
-    pub refusal: u32,
+pub struct Figures {
     pub passed: bool,
     pub line: Line,
     pub top: Standard,
     pub count: u32,
 }
 
-// What is kept of a lent list: its first thirty pairs, their count (31 where there are more), and whether all of its pairs are in range.
+// The two verdicts of an annual test.
 #[derive(Clone, Copy)]
-struct Gathered {
-    pairs: [Pair; 30],
-    count: u32,
-    ranged: bool,
-}
-
-// The outcome of an annual test: a refusal (0 for none), or the two verdicts.
-#[derive(Clone, Copy)]
-pub struct Tested {
-    pub refusal: u32,
+pub struct Verdicts {
     pub variability: bool,
     pub function: bool,
 }
@@ -191,22 +184,19 @@ pub fn value(edition: u8, reference: i32, l: Line, k: Conditions, x: i32) -> Sta
 }
 
 // y' of a pair.
-fn measured(edition: u8, reference: i32, p: Pair) -> Standard
-    requires { OxygenRanged reference × PairRanged p }
-    ensures { result ≡ measured_of edition reference p }
+fn measured(b: Basis, p: Pair) -> Standard
+    requires { RequirementsRanged b.requirements × PairRanged p }
+    ensures { result ≡ measured_of b.edition b.requirements.oxygen p }
 {
-    let k = p.conditions;
-    let v = p.srm;
-    standard_conditions(edition, reference, k, v)
+    standard_conditions(b.edition, b.requirements.oxygen, p.conditions, p.srm)
 }
 
 // c of a pair.
-fn fitted_value(edition: u8, reference: i32, l: Line, p: Pair) -> Standard
-    requires { OxygenRanged reference × LineRanged l × PairRanged p }
-    ensures { result ≡ c_of edition reference l p }
+fn fitted_value(b: Basis, l: Line, p: Pair) -> Standard
+    requires { RequirementsRanged b.requirements × LineRanged l × PairRanged p }
+    ensures { result ≡ c_of b.edition b.requirements.oxygen l p }
 {
-    let k = p.conditions;
-    value(edition, reference, l, k, p.signal)
+    value(b.edition, b.requirements.oxygen, l, p.conditions, p.signal)
 }
 
 // ---- sums over the pairs
@@ -226,22 +216,13 @@ fn plus(u: Sums, p: Pair) -> Sums
     }
 }
 
-fn pair_sums(pairs: [Pair; 30], n: u32) -> Sums
-    requires { (n ≤ 30) × AllRanged (take n pairs) }
-    ensures { result ≡ sums_of (take n pairs) }
+fn pair_sums(pairs: &[Pair]) -> Sums
+    requires { (length pairs.now ≤ 30) × AllRanged pairs.now }
+    ensures { result ≡ sums_of pairs.now }
 {
-    let mut u = Sums {
-        n: 0,
-        x: 0,
-        y: 0,
-        xy: 0,
-        xx: 0,
-    };
-    let mut i: u32 = 0;
-    while i < n {
-        let p = pairs[i as usize];
-        u = plus(u, p);
-        i += 1;
+    let mut u = Sums::default();
+    for p in pairs {
+        u = plus(u, *p);
     }
     u
 }
@@ -276,22 +257,19 @@ fn widened(s: Span, v: Standard) -> Span
 }
 
 // Whether the y' differ by less than 15 % of the limit.
-fn is_flat(edition: u8, pairs: [Pair; 30], n: u32, q: Requirements) -> bool
-    requires { (0 < n) × (n ≤ 30) × AllRanged (take n pairs) × RequirementsRanged q }
-    ensures { result ≡ flat_of edition q (take n pairs) }
+fn is_flat(pairs: &[Pair], b: Basis) -> bool
+    requires { (0 < length pairs.now) × AllRanged pairs.now × RequirementsRanged b.requirements }
+    ensures { result ≡ flat_of b.edition b.requirements pairs.now }
 {
-    let first = measured(edition, q.oxygen, pairs[0]);
+    let first = measured(b, pairs[0]);
     let mut s = Span {
         low: first,
         high: first,
     };
-    let mut i: u32 = 1;
-    while i < n {
-        let p = pairs[i as usize];
-        s = widened(s, measured(edition, q.oxygen, p));
-        i += 1;
+    for p in pairs {
+        s = widened(s, measured(b, *p));
     }
-    100 * (s.high.0 as i64 - s.low.0 as i64) < 15 * (q.limit as i64)
+    100 * (s.high.0 as i64 - s.low.0 as i64) < 15 * (b.requirements.limit as i64)
 }
 
 // ---- the function
@@ -317,22 +295,22 @@ fn divisor(flat: bool, u: Sums, z: i32) -> i64
     (u.n as i64) * u.xx - u.x * u.x
 }
 
-// B, or 0 where it is outside 1..1,000,000: near(100000·rise/divisor), worked out from the whole part of rise/divisor and its rest. A whole part below
+// B, or none where it is outside 1..1,000,000: near(100000·rise/divisor), worked out from the whole part of rise/divisor and its rest. A whole part below
 // -1 or over 10 gives no B in its range (-1 gives none either, but a test against 0 would be one of the sign); the rest times 100000 fits, unsigned.
-fn slope(edition: u8, rise: i64, divisor: i64) -> i32
+fn slope(edition: u8, rise: i64, divisor: i64) -> Option<i32>
     requires { (nat_abs rise ≤ 144000000000000) × (pos 0 <ℤ divisor) × (nat_abs divisor ≤ 144000000000000) }
     ensures { result ≡ slope_code edition rise divisor }
 {
     let p = charts::divide(rise, divisor);
     if !between(-1, 10, p.whole) {
-        return 0;
+        return None;
     }
     let part = charts::near_unsigned(edition, 100000 * (p.rest as u64), divisor as u64);
     let b = 100000 * p.whole + part as i64;
     if !between(1, 1000000, b) {
-        return 0;
+        return None;
     }
-    b as i32
+    Some(b as i32)
 }
 
 fn intercept(edition: u8, flat: bool, u: Sums, z: i32, b: i32) -> i64
@@ -355,17 +333,14 @@ fn far(v: Standard) -> bool
 }
 
 // Whether some y' or c is beyond ±10,000,000.
-fn beyond(edition: u8, pairs: [Pair; 30], n: u32, reference: i32, l: Line) -> bool
-    requires { (n ≤ 30) × AllRanged (take n pairs) × OxygenRanged reference × LineRanged l }
-    ensures { result ≡ some_beyond edition reference l (take n pairs) }
+fn beyond(pairs: &[Pair], b: Basis, l: Line) -> bool
+    requires { AllRanged pairs.now × RequirementsRanged b.requirements × LineRanged l }
+    ensures { result ≡ some_beyond b.edition b.requirements.oxygen l pairs.now }
 {
-    let mut i: u32 = 0;
-    while i < n {
-        let p = pairs[i as usize];
-        if far(measured(edition, reference, p)) | far(fitted_value(edition, reference, l, p)) {
+    for p in pairs {
+        if far(measured(b, *p)) | far(fitted_value(b, l, *p)) {
             return true;
         }
-        i += 1;
     }
     false
 }
@@ -384,24 +359,17 @@ fn with_residual(r: Residuals, y: Standard, c: Standard) -> Residuals
     }
 }
 
-fn pair_residuals(edition: u8, pairs: [Pair; 30], n: u32, reference: i32, l: Line) -> Residuals
-    requires { (0 < n) × (n ≤ 30) × AllRanged (take n pairs) × OxygenRanged reference × LineRanged l × (some_beyond edition reference l (take n pairs) ≡ false) }
-    ensures { result ≡ residuals_of edition reference l (take n pairs) }
+fn pair_residuals(pairs: &[Pair], b: Basis, l: Line) -> Residuals
+    requires { (0 < length pairs.now) × (length pairs.now ≤ 30) × AllRanged pairs.now × RequirementsRanged b.requirements × LineRanged l × (some_beyond b.edition b.requirements.oxygen l pairs.now ≡ false) }
+    ensures { result ≡ residuals_of b.edition b.requirements.oxygen l pairs.now }
 {
     let mut r = Residuals {
-        most: fitted_value(edition, reference, l, pairs[0]),
+        most: fitted_value(b, l, pairs[0]),
         sum: 0,
         squares: 0,
     };
-    let mut i: u32 = 0;
-    while i < n {
-        let p = pairs[i as usize];
-        r = with_residual(
-            r,
-            measured(edition, reference, p),
-            fitted_value(edition, reference, l, p),
-        );
-        i += 1;
+    for p in pairs {
+        r = with_residual(r, measured(b, *p), fitted_value(b, l, *p));
     }
     r
 }
@@ -536,33 +504,18 @@ fn function_holds(n: u32, sum: i64, q: u64, sigma: u32) -> bool
 
 // ---- outcomes
 
-fn refused_fit(refusal: u32) -> Fitted
-    ensures { result ≡ refused_fit refusal }
+// A function stands: refused where a figure is far out, or the figures and the verdict.
+fn line_fits(pairs: &[Pair], b: Basis, l: Line) -> Result<Figures, Refusal>
+    requires { (0 < length pairs.now) × (length pairs.now ≤ 30) × AllRanged pairs.now × RequirementsRanged b.requirements × LineRanged l }
+    ensures { fitted result ≡ line_fits b.edition b.requirements pairs.now l }
 {
-    Fitted {
-        refusal: refusal,
-        passed: false,
-        line: Line {
-            slope: 0,
-            intercept: 0,
-        },
-        top: Standard(0),
-        count: 0,
+    if beyond(pairs, b, l) {
+        return Err(Refusal::Beyond);
     }
-}
-
-// A function stands: 24, or the figures and the verdict.
-fn line_fits(edition: u8, pairs: [Pair; 30], n: u32, q: Requirements, l: Line) -> Fitted
-    requires { (0 < n) × (n ≤ 30) × AllRanged (take n pairs) × RequirementsRanged q × LineRanged l }
-    ensures { result ≡ line_fits edition q (take n pairs) l }
-{
-    if beyond(edition, pairs, n, q.oxygen, l) {
-        return refused_fit(24);
-    }
-    let r = pair_residuals(edition, pairs, n, q.oxygen, l);
-    let most = r.most;
-    Fitted {
-        refusal: 0,
+    let r = pair_residuals(pairs, b, l);
+    let n = pairs.len() as u32;
+    let q = b.requirements;
+    Ok(Figures {
         passed: varied(
             100000000,
             n * (n - 1),
@@ -571,73 +524,62 @@ fn line_fits(edition: u8, pairs: [Pair; 30], n: u32, q: Requirements, l: Line) -
             dispersion(n, r),
         ),
         line: l,
-        top: top(edition, q.limit, most),
+        top: top(b.edition, q.limit, r.most),
         count: n,
-    }
+    })
 }
 
-// From the sums on: 22, 23, then the function.
-fn fit_from(edition: u8, pairs: [Pair; 30], n: u32, q: Requirements, z: i32, u: Sums) -> Fitted
-    requires { (0 < n) × (n ≤ 30) × AllRanged (take n pairs) × RequirementsRanged q × ZRanged z × SumsRanged u × (0 < u.n) }
-    ensures { result ≡ fit_from edition q z (take n pairs) u }
+// From the sums on: the divisor, the slope, then the function.
+fn fit_from(pairs: &[Pair], b: Basis, z: i32, u: Sums) -> Result<Figures, Refusal>
+    requires { (0 < length pairs.now) × (length pairs.now ≤ 30) × AllRanged pairs.now × RequirementsRanged b.requirements × ZRanged z × SumsRanged u × (0 < u.n) }
+    ensures { fitted result ≡ fit_from b.edition b.requirements z pairs.now u }
 {
-    let flat = is_flat(edition, pairs, n, q);
+    let flat = is_flat(pairs, b);
     let d = divisor(flat, u, z);
     if d <= 0 {
-        return refused_fit(22);
+        return Err(Refusal::Divisor);
     }
-    let b = slope(edition, rise(flat, u), d);
-    if b == 0 {
-        return refused_fit(23);
-    }
-    let a = intercept(edition, flat, u, z, b);
+    let Some(m) = slope(b.edition, rise(flat, u), d) else {
+        return Err(Refusal::Slope);
+    };
+    let a = intercept(b.edition, flat, u, z, m);
     line_fits(
-        edition,
         pairs,
-        n,
-        q,
+        b,
         Line {
-            slope: b,
+            slope: m,
             intercept: a,
         },
     )
 }
 
-// The calibration's outcome, from the first n of thirty pairs.
-pub fn fit(edition: u8, pairs: [Pair; 30], n: u32, q: Requirements, z: i32) -> Fitted
-    requires { (n ≤ 30) × AllRanged (take n pairs) × RequirementsRanged q × ZRanged z }
-    ensures { result ≡ fit_of edition q z (take n pairs) }
+// The calibration's outcome.
+pub fn fit(pairs: &[Pair], b: Basis, z: i32) -> Result<Figures, Refusal>
+    requires { (length pairs.now ≤ 30) × AllRanged pairs.now × RequirementsRanged b.requirements × ZRanged z }
+    ensures { fitted result ≡ fit_of b.edition b.requirements z pairs.now }
 {
-    if !count_fits(n) {
-        return refused_fit(20);
+    if !count_fits(pairs.len() as u32) {
+        return Err(Refusal::Count);
     }
-    fit_from(edition, pairs, n, q, z, pair_sums(pairs, n))
+    fit_from(pairs, b, z, pair_sums(pairs))
 }
 
-// The annual test's outcome, from the first n of thirty pairs and the function in force.
-pub fn annual_test(edition: u8, pairs: [Pair; 30], n: u32, q: Requirements, l: Line) -> Tested
-    requires { (n ≤ 30) × AllRanged (take n pairs) × RequirementsRanged q × LineRanged l }
-    ensures { result ≡ test_of edition q l (take n pairs) }
+// The annual test's outcome, of the function in force.
+pub fn annual_test(pairs: &[Pair], b: Basis, l: Line) -> Result<Verdicts, Refusal>
+    requires { (length pairs.now ≤ 30) × AllRanged pairs.now × RequirementsRanged b.requirements × LineRanged l }
+    ensures { tested result ≡ test_of b.edition b.requirements l pairs.now }
 {
+    let n = pairs.len() as u32;
     if !annual_count_fits(n) {
-        return Tested {
-            refusal: 20,
-            variability: false,
-            function: false,
-        };
+        return Err(Refusal::Count);
     }
-    if beyond(edition, pairs, n, q.oxygen, l) {
-        return Tested {
-            refusal: 24,
-            variability: false,
-            function: false,
-        };
+    if beyond(pairs, b, l) {
+        return Err(Refusal::Beyond);
     }
-    let r = pair_residuals(edition, pairs, n, q.oxygen, l);
+    let r = pair_residuals(pairs, b, l);
     let dispersed = dispersion(n, r);
-    let sigma = q.uncertainty as u32;
-    Tested {
-        refusal: 0,
+    let sigma = b.requirements.uncertainty as u32;
+    Ok(Verdicts {
         variability: varied(
             400000000,
             9 * (n * (n - 1)),
@@ -646,82 +588,30 @@ pub fn annual_test(edition: u8, pairs: [Pair; 30], n: u32, q: Requirements, l: L
             dispersed,
         ),
         function: function_holds(n, r.sum, dispersed, sigma),
-    }
+    })
 }
 
 // ---- a lent list of pairs
 
-fn gather_none() -> Gathered
-    ensures { result ≡ gathered_none }
+fn all_ranged(pairs: &[Pair]) -> bool
+    ensures { result ≡ list_all pair_ranged_of pairs.now }
 {
-    let p = Pair {
-        signal: 0,
-        srm: Actual(0),
-        conditions: Conditions {
-            temperature: 0,
-            pressure: 0,
-            water: 0,
-            oxygen: 0,
-        },
-    };
-    Gathered {
-        pairs: [p; 30],
-        count: 0,
-        ranged: true,
-    }
+    pairs.iter().all(|p| pair_ranged(*p))
 }
 
-// One pair more. Every pair is tested; past thirty none is kept.
-fn gather(g: Gathered, p: Pair) -> Gathered
-    ensures { result ≡ gather_of g p }
+// The calibration's outcome, from a lent list of pairs of any length: the edition, the ranges, the count, then the fit.
+pub fn fit_list(pairs: &[Pair], b: Basis, z: i32) -> Result<Figures, Refusal>
+    ensures { fitted result ≡ fit_list_of b z pairs.now }
 {
-    let ranged = g.ranged & pair_ranged(p);
-    let i = g.count;
-    if 30 <= i {
-        return Gathered {
-            count: 31,
-            ranged: ranged,
-            ..g
-        };
+    if !charts::edition_known(b.edition) {
+        return Err(Refusal::Header);
     }
-    let mut h = g;
-    h.pairs[i as usize] = p;
-    h.count = i + 1;
-    h.ranged = ranged;
-    h
-}
-
-// 3, then 13, then 20 where there are more than thirty, then the fit.
-fn fit_gathered(g: Gathered, b: Basis, z: i32) -> Fitted
-    requires { g.ranged ≡ true → AllRanged (take g.count g.pairs) }
-    ensures { result ≡ gathered_fit g b z }
-{
-    let edition = b.edition;
-    if !charts::edition_known(edition) {
-        return refused_fit(3);
-    }
-    let q = b.requirements;
-    let n = g.count;
-    let ranged = (requirements_ranged(q) & z_ranged(z)) & g.ranged;
+    let ranged = requirements_ranged(b.requirements) & z_ranged(z) & all_ranged(pairs);
     if !ranged {
-        return refused_fit(13);
+        return Err(Refusal::Range);
     }
-    if 30 < n {
-        return refused_fit(20);
+    if 30 < pairs.len() {
+        return Err(Refusal::Count);
     }
-    let pairs = g.pairs;
-    fit(edition, pairs, n, q, z)
-}
-
-// The calibration's outcome, from a lent list of pairs of any length.
-pub fn fit_list(pairs: &[Pair], b: Basis, z: i32) -> Fitted
-    ensures { result ≡ fit_list_of b z pairs.now }
-{
-    let mut g = gather_none();
-    let mut i: usize = 0;
-    while i < pairs.len() {
-        g = gather(g, pairs[i]);
-        i = i + 1;
-    }
-    fit_gathered(g, b, z)
+    fit(pairs, b, z)
 }

@@ -1,6 +1,7 @@
 // Charts in an edition: series of differences, a line after each reading. A line has the name of the series, s and the last difference, the
 // sums P, M and V with their counts, the adjustments to be taken off and put on, and the rising, falling and precision alarm.
-use crate::bench::{Bench, Flags};
+use crate::print::Flags;
+use crate::runner::Runner;
 use charts::{Chart, Sum};
 use std::io;
 
@@ -79,7 +80,7 @@ pub fn show(rt: &impl Print, name: &str, s: u16, c: Chart) -> io::Result<()> {
     )
 }
 
-impl<R: Print> Bench<'_, R> {
+impl<R: Print> Runner<'_, R> {
     // Applies the differences one after the other, with a line for each.
     fn continued(&self, name: &str, begin: Chart, s: u16, ds: &[i32]) -> io::Result<Chart> {
         let mut c = begin;

@@ -6,33 +6,33 @@
 // (sum, count + 1) where the sum is above 0, else (0, 0)).
 // The cases of records are the lines of the file `stdin`, a script. What they must give was worked out by a second reader of that script in
 // Python, which goes by the papers on records, weeks, calls and refusals, and knows nothing of this code.
-mod bench;
 mod calibration_cases;
 mod charts_cases;
 mod lent_cases;
 mod print;
 mod rounding_cases;
+mod runner;
 mod script;
 mod script_command;
 mod script_desk;
 mod script_record;
 mod script_words;
 
-use bench::Bench;
+use runner::Runner;
 use std::io;
 
 // The cases of every layer below the records.
-fn layers(rt: &impl Print, edition: u8) -> io::Result<()> {
-    let bench = Bench { rt, edition };
-    bench.rounding()?;
-    bench.charts()?;
-    calibration_cases::run(rt, edition)?;
-    lent_cases::run(rt, edition)
+fn layers(rt: &(impl Print + AllocGlobal), edition: u8) -> io::Result<()> {
+    let runner = Runner { rt, edition };
+    runner.rounding()?;
+    runner.charts()?;
+    runner.calibration()?;
+    runner.lent()
 }
 
 fn main(rt: HostRuntime) -> io::Result<()> {
     layers(&rt, 1)?;
-    print::text(&rt, b"edition 2\n")?;
+    println!(&rt; "edition 2")?;
     layers(&rt, 2)?;
     lent_cases::no_edition(&rt)?;
     script::run(&rt)

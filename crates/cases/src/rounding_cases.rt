@@ -1,5 +1,6 @@
 // near(n/d) in an edition: halves, both signs side by side, exact quotients, and the ends of its range.
-use crate::bench::{Bench, Or};
+use crate::print::Or;
+use crate::runner::Runner;
 use std::fmt::Display;
 use std::io;
 
@@ -70,7 +71,7 @@ fn try_near_unsigned(edition: u8, n: u64, d: u64) -> Option<u64> {
     Some(charts::near_unsigned(edition, n, d))
 }
 
-impl<R: Print> Bench<'_, R> {
+impl<R: Print> Runner<'_, R> {
     fn quotient<T: Display + Drop>(
         &self,
         name: &str,

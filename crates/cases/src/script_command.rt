@@ -1,13 +1,6 @@
 // The commands of the script that take numbers, or nothing.
 use crate::script_record;
-
-// A closing by its numbers: kind, minute and Z.
-#[derive(Clone, Copy)]
-pub struct Closing {
-    pub kind: u8,
-    pub minute: u32,
-    pub z: i32,
-}
+use file::Closing;
 
 #[derive(Clone, Copy)]
 pub enum Command {

@@ -1,10 +1,12 @@
 // What the commands of the script do: a state is brought about, records are listed, a block is formed of them or a closing made after them, blocks are
 // gathered in a run, and the run is taken. A target is filled with A5 before a call, so that a byte that was written is seen.
-use crate::bench::{Flags, Or};
-use crate::script_command::{Closing, Command};
+use crate::print::{Flags, Or};
+use crate::script_command::Command;
 use crate::{charts_cases, script_record};
 use charts::Chart;
-use records::state::{Calibration, Demand, State};
+use file::{Closing, Refused};
+use records::state::State;
+use refusals::Refusal;
 use std::alloc::Global;
 use std::io;
 
@@ -32,17 +34,12 @@ fn no_room(rt: &impl Print) -> io::Result<()> {
     print!(rt; " no room")
 }
 
-// A state that calls left is sound; of any other, refusal 7.
-fn step(st: State, record: &[u8; 40]) -> Result<State, u32> {
+// A state that calls left is sound.
+fn step(st: State, record: &[u8; 40]) -> Result<State, Refusal> {
     if !records::soundness::sound(4000000000, st) {
-        return Err(7);
+        return Err(Refusal::State);
     }
-    let s = records::step::step(st, record);
-    if s.refusal == 0 {
-        Ok(s.state)
-    } else {
-        Err(s.refusal)
-    }
+    records::step::step(st, record)
 }
 
 // The readings of a chart; a chart that is not started has none.
@@ -50,22 +47,11 @@ fn readings(c: Chart) -> Or<'static, u32> {
     Or(c.started.then_some(c.readings), "-")
 }
 
-fn show_calibration(rt: &impl Print, calibration: Calibration) -> io::Result<()> {
-    match calibration {
-        Calibration::InForce(f) => {
-            print!(rt;
-                " calibration {} {} {} {}",
-                f.slope, f.intercept, f.top.0, f.minute
-            )
-        }
-        Calibration::Absent => print!(rt; " calibration -"),
-    }
-}
-
-fn first_call(d: Demand) -> Option<u32> {
-    match d {
-        Demand::Quiet => None,
-        Demand::Since(m) => Some(m),
+// The number of the row that refused a call, 0 for none, and the place of the record at fault, 255 for none.
+fn row_and_place(refused: Option<Refused>) -> (u32, u8) {
+    match refused {
+        Some(r) => (r.row.number(), r.place.unwrap_or(255)),
+        None => (0, 255),
     }
 }
 
@@ -91,7 +77,9 @@ impl Desk {
 
     // What the prepared record would meet. The state stays as it is.
     pub fn attempt(&self, rt: &impl Print, title: &[u8]) -> io::Result<()> {
-        let row = step(self.state, &self.record).err().unwrap_or(0);
+        let row = step(self.state, &self.record)
+            .err()
+            .map_or(0, Refusal::number);
         rt.write_all(title)?;
         println!(rt; ": {row}")
     }
@@ -135,7 +123,7 @@ impl Desk {
         for _ in 0..times {
             match step(self.state, &self.record) {
                 Ok(after) => self.state = after,
-                Err(row) => return print!(rt; " refused {row}"),
+                Err(row) => return print!(rt; " refused {}", row.number()),
             }
             script_record::move_on(&mut self.record, apart);
         }
@@ -151,11 +139,12 @@ impl Desk {
         Ok(())
     }
 
-    // The refusal, the record's place, and whether the target has all its old bytes.
-    fn tell(&self, rt: &impl Print, refusal: u32, place: u32) -> io::Result<()> {
+    // What a call answered, and whether the target has all its old bytes.
+    fn tell(&self, rt: &impl Print, refused: Option<Refused>) -> io::Result<()> {
+        let (row, place) = row_and_place(refused);
         let untouched = self.target.iter().all(|b| *b == 165);
         let target = if untouched { "kept" } else { "written" };
-        print!(rt; " refused {refusal} place {place} {target}")
+        print!(rt; " refused {row} place {place} {target}")
     }
 
     // The listed bytes, but for their last `less`.
@@ -177,11 +166,11 @@ impl Desk {
         };
         let answer = file::append(self.state, self.edition, bytes, asked);
         self.target = target;
-        self.tell(rt, answer.refusal, answer.index)?;
-        self.state = answer.state;
-        if answer.refusal != 0 {
+        self.tell(rt, answer.err())?;
+        let Ok(after) = answer else {
             return Ok(());
-        }
+        };
+        self.state = after;
         if RUN < self.run.len() + 512 {
             return no_room(rt);
         }
@@ -191,7 +180,7 @@ impl Desk {
     }
 
     // A closing after the listed records, but for their last `less` bytes, in a target of `size` bytes. One that was made is the prepared record.
-    fn make(&mut self, rt: &impl Print, k: Closing, size: u64, less: u64) -> io::Result<()> {
+    fn make(&mut self, rt: &impl Print, closing: Closing, size: u64, less: u64) -> io::Result<()> {
         let mut target = [165; TARGET];
         let Some(bytes) = self.listed(less) else {
             return no_room(rt);
@@ -199,11 +188,10 @@ impl Desk {
         let Some(asked) = target.get_mut(..size as usize) else {
             return no_room(rt);
         };
-        let (st, edition) = (self.state, self.edition);
-        let answer = file::make_closing(st, edition, bytes, k.kind, k.minute, k.z, asked);
+        let answer = file::make_closing(self.state, self.edition, bytes, closing, asked);
         self.target = target;
-        self.tell(rt, answer.refusal, answer.index)?;
-        if answer.refusal == 0 {
+        self.tell(rt, answer.err())?;
+        if answer.is_ok() {
             self.record.copy_from_slice(&self.target[..40]);
         }
         Ok(())
@@ -218,11 +206,11 @@ impl Desk {
         run.resize(size as usize, 0)?;
         let r = file::replay(self.state, run.as_slice());
         self.state = r.state;
+        let (row, place) = row_and_place(r.ended.err());
         print!(rt;
-            " blocks {} refused {} place {}",
-            r.blocks, r.refusal, r.index
-        )?;
-        print!(rt; " next {}", self.state.next)
+            " blocks {} refused {row} place {place} next {}",
+            r.blocks, r.state.next
+        )
     }
 
     // A byte of the run is changed.
@@ -265,8 +253,11 @@ impl Desk {
             " total {} outside {} over {}",
             st.total, st.outside, st.over
         )?;
-        print!(rt; " call {}", Or(first_call(st.demand), "-"))?;
-        show_calibration(rt, st.calibration)
+        print!(rt; " call {} calibration ", Or(st.demand, "-"))?;
+        match st.calibration {
+            Some(f) => print!(rt; "{} {} {} {}", f.slope, f.intercept, f.top.0, f.minute),
+            None => print!(rt; "-"),
+        }
     }
 
     // A line for each chart.

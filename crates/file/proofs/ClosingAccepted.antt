@@ -16,8 +16,7 @@ use Rattle.calibration.proofs.FitRange.{T_true, fitted_ranged}
 use Rattle.calibration.proofs.ResidualLaws.{top_bound, residuals_ranged}
 use Rattle.calibration.proofs.VerdictLaws.{count_above}
 use Rattle.calibration.specs.Calibration.{LineRanged, count_fits, divisor_of, fit_from, fit_of, flat_of, line_fits, residuals_of, slope_of, slope_ranged_of, some_beyond, sums_of, top_of}
-use Rattle.calibration.specs.declared.Fitted.{Fitted}
-use Rattle.calibration.specs.declared.Tested.{Tested}
+use Rattle.calibration.specs.Outcomes.{Fitted, Tested}
 use Rattle.calibration.specs.declared.Line.{Line}
 use Rattle.calibration.specs.declared.Pair.{Pair}
 use Rattle.calibration.specs.declared.Requirements.{Requirements}

@@ -10,8 +10,7 @@ use Rattle.std.proofs.Math.ListN.{length, replicate, length-append}
 use Rattle.std.proofs.lemmas.List.Edits.{sets, sets-eq}
 use Rattle.charts.specs.Tests.{if_yes, if_no}
 use Rattle.calibration.specs.Pairs.{ZRanged, between_answers}
-use Rattle.calibration.specs.declared.Fitted.{Fitted}
-use Rattle.calibration.specs.declared.Tested.{Tested}
+use Rattle.calibration.specs.Outcomes.{Fitted, Tested}
 use Rattle.records.specs.Bytes.{bytes32, written}
 use Rattle.records.specs.BytesLaws.{written_more, written_whole, bytes32_length}
 use Rattle.records.specs.RecordLaws.{holds}
@@ -28,8 +27,7 @@ use Rattle.file.specs.FitLaws.{opened_pairs, opened_ready}
 use Rattle.file.specs.FitLaws.{ready_fit, within_none, within_ran}
 use Rattle.file.proofs.CallsLaws.{records_length}
 use Rattle.file.specs.Answered.{ran_of}
-use Rattle.file.specs.Closings.{head_of, figures_of, kept, first_rows, z_fits, unsigned32, unsigned64, bytes64, calibration_record, annual_record, closing_of, closing_refusal, made, closed, ran_before, make_of, made_bytes}
-use Rattle.file.specs.declared.making.Made.{Made}
+use Rattle.file.specs.Closings.{Made, head_of, figures_of, kept, first_rows, z_fits, unsigned32, unsigned64, bytes64, calibration_record, annual_record, closing_of, closing_refusal, made, closed, ran_before, make_of, made_bytes}
 
 -- ---- the forty bytes
 

@@ -1,9 +1,10 @@
+pub mod RowsLaws
 pub mod CheckTable
 pub mod CheckFill
 pub mod CheckTen
 pub mod CheckLoop
 pub mod TakeLaws
-pub mod UnsignedLaws
+pub mod SignedLaws
 pub mod TakingLaws
 pub mod CallsLaws
 pub mod StatementLaws

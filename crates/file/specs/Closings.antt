@@ -1,9 +1,8 @@
 -- Paper 01, 'Making blocks and closings', and paper 02, C-12 and C-13: making a closing, and the rows of 'Where input is stopped' for it. Its figures are worked
 -- out from the state that the records before it lead to, in a block of the edition told.
-use Rattle.std.specs.Prelude.{Bool, not, ◌||◌, List, [], ◌∷◌, ◌++◌, ℕ, ◌-◌, ◌/◌, ◌%◌, ltb, eqb, ℤ, pos, negsuc, length, replicate, if◌then◌else◌}
+use Rattle.std.specs.Prelude.{Bool, not, ◌||◌, List, [], ◌∷◌, ◌++◌, ℕ, ◌-◌, ◌/◌, ◌%◌, ltb, eqb, ℤ, pos, negsuc, length, replicate, if◌then◌else◌, Result}
 use Rattle.calibration.specs.Pairs.{z_ranged_of}
-use Rattle.calibration.specs.declared.Fitted.{Fitted}
-use Rattle.calibration.specs.declared.Tested.{Tested}
+use Rattle.calibration.specs.Outcomes.{Fitted, Tested}
 use Rattle.records.specs.Bytes.{bytes32}
 use Rattle.records.specs.Record.{Record}
 use Rattle.records.specs.Table.{Facts, calibration_of, annual_of, pass_mark, test_mark, sameℤ}
@@ -13,7 +12,8 @@ use Rattle.records.specs.declared.state.State.{State}
 use Rattle.file.specs.Blocks.{told_refusal}
 use Rattle.file.specs.Taking.{records, records_fit}
 use Rattle.file.specs.Calls.{ready_of, opened}
-use Rattle.file.specs.declared.making.Made.{Made}
+use Rattle.file.specs.Answered.{row_of, place_of}
+use Rattle.file.specs.declared.Refused.{Refused}
 
 -- ---- the forty bytes
 
@@ -67,6 +67,15 @@ closing_refusal f kind minute z =
     else (annual_of f).refusal)))
 
 -- ---- the call
+
+-- the answer to making a closing: the row that refused (0: none), and the place of the record that it refused (255: no record's row)
+pub record Made : Type 0 where
+  pub refusal : ℕ
+  pub index : ℕ
+
+-- the code's answer as such a one
+abbrev pub made_by : Result Unit Refused → Made
+made_by r = record { refusal = row_of r; index = place_of r }
 
 abbrev pub made : ℕ → ℕ → Made
 made refusal index = record { refusal = refusal; index = index }

@@ -1,71 +1,30 @@
 // Making a closing (paper 01, 'Making blocks and closings', and paper 02, C-12).
-ghost use Rattle.std.specs.Prelude.{◌≡◌, ◌||◌, ◌+◌, ◌≤◌, eqb, length};
+ghost use Rattle.std.specs.Prelude.{◌≡◌, ◌||◌, ◌≤◌, eqb, length, Ok};
+ghost use Rattle.refusals.specs.Rows.{outcome_of};
+ghost use Rattle.calibration.specs.Outcomes.{fitted, tested};
 ghost use Rattle.calibration.specs.Pairs.{ZRanged};
-ghost use Rattle.records.specs.Bytes.{bytes32, written};
+ghost use Rattle.records.specs.Bytes.{written};
 ghost use Rattle.records.specs.Soundness.{SettingSound, Sound};
 ghost use Rattle.records.specs.State.{facts_of};
 ghost use Rattle.records.specs.Table.{annual_of, calibration_of};
-ghost use Rattle.file.specs.Closings.{annual_record, bytes64, calibration_record, closing_of, closing_refusal, figures_of, first_rows, head_of, kept, made, made_bytes, make_of, unsigned32, unsigned64, z_fits};
+ghost use Rattle.file.specs.Answered.{PlaceOfTwelve};
+ghost use Rattle.file.specs.Closings.{annual_record, calibration_record, closing_of, closing_refusal, figures_of, first_rows, head_of, kept, made_by, made_bytes, make_of, z_fits};
 
-use crate::{blocks, forming, taking};
-use calibration::{Fitted, Tested};
+use crate::{Refused, blocks, forming, taking};
+use calibration::{Figures, Verdicts};
 use records::state::State;
 use records::{bytes, closing};
+use refusals::Refusal;
 
-// The answer to making a closing: the row that refused (0: none), and the place of the record that it refused (255: no record's row).
+// A closing to be made: its kind, its minute, and Z for a calibration.
 #[derive(Clone, Copy)]
-pub struct Made {
-    pub refusal: u32,
-    pub index: u32,
-}
-
-fn ended(refusal: u32, index: u32) -> Made
-    ensures { result ≡ made refusal index }
-{
-    Made {
-        refusal: refusal,
-        index: index,
-    }
+pub struct Closing {
+    pub kind: u8,
+    pub minute: u32,
+    pub z: i32,
 }
 
 // ---- the forty bytes
-
-// The unsigned number that has the same bits.
-fn unsigned(z: i32) -> u32
-    ensures { result ≡ unsigned32 z }
-{
-    if z < 0 {
-        return 4294967295 - ((-1 - z) as u32);
-    }
-    z as u32
-}
-
-fn unsigned_long(z: i64) -> u64
-    ensures { result ≡ unsigned64 z }
-{
-    if z < 0 {
-        return 18446744073709551615 - ((-1 - z) as u64);
-    }
-    z as u64
-}
-
-// A signed number is written into four bytes.
-fn write_signed(target: &mut [u8], at: usize, z: i32)
-    requires { at + 4 ≤ length target.old }
-    ensures { target.new ≡ written target.old at (bytes32 (unsigned32 z)) }
-{
-    bytes::write32(target, at, unsigned(z));
-}
-
-// A signed number is written into eight bytes.
-fn write_signed_long(target: &mut [u8], at: usize, z: i64)
-    requires { at + 8 ≤ length target.old }
-    ensures { target.new ≡ written target.old at (bytes64 (unsigned64 z)) }
-{
-    let n = unsigned_long(z);
-    bytes::write32(target, at, (n % 4294967296) as u32);
-    bytes::write32(target, at + 4, (n / 4294967296) as u32);
-}
 
 // The first eight bytes of a record are written.
 fn write_head(target: &mut [u8], kind: u8, mark: u8, minute: u32)
@@ -80,33 +39,33 @@ fn write_head(target: &mut [u8], kind: u8, mark: u8, minute: u32)
 }
 
 // The figures of a fit are written: slope, intercept, top and N.
-fn write_figures(target: &mut [u8], c: Fitted)
+fn write_figures(target: &mut [u8], c: Figures)
     requires { 32 ≤ length target.old }
-    ensures { target.new ≡ written target.old 12 (figures_of c) }
+    ensures { target.new ≡ written target.old 12 (figures_of (fitted (Ok c))) }
 {
-    write_signed(target, 12, c.line.slope);
-    write_signed_long(target, 16, c.line.intercept);
-    write_signed(target, 24, c.top.0);
+    bytes::copy(target, 12, &c.line.slope.to_le_bytes());
+    bytes::copy(target, 16, &c.line.intercept.to_le_bytes());
+    bytes::copy(target, 24, &c.top.0.to_le_bytes());
     bytes::write32(target, 28, c.count);
 }
 
 // A calibration closing is written: every byte of the target.
-fn write_calibration(target: &mut [u8], c: Fitted, minute: u32, z: i32)
+fn write_calibration(target: &mut [u8], c: Figures, minute: u32, z: i32)
     requires { length target.old ≡ 40 }
-    ensures { target.new ≡ calibration_record c minute z }
+    ensures { target.new ≡ calibration_record (fitted (Ok c)) minute z }
 {
     write_head(target, 5, closing::pass_mark(c), minute);
-    write_signed(target, 8, z);
+    bytes::copy(target, 8, &z.to_le_bytes());
     write_figures(target, c);
     bytes::clear(target, 32, 8);
 }
 
 // An annual closing is written: every byte of the target.
-fn write_annual(target: &mut [u8], t: Tested, count: u32, minute: u32)
+fn write_annual(target: &mut [u8], v: Verdicts, count: u32, minute: u32)
     requires { length target.old ≡ 40 }
-    ensures { target.new ≡ annual_record t count minute }
+    ensures { target.new ≡ annual_record (tested (Ok v)) count minute }
 {
-    write_head(target, 6, closing::test_mark(t), minute);
+    write_head(target, 6, closing::test_mark(v), minute);
     bytes::write32(target, 8, count);
     bytes::clear(target, 12, 28);
 }
@@ -117,7 +76,7 @@ fn write_annual(target: &mut [u8], t: Tested, count: u32, minute: u32)
 fn closes(kind: u8) -> bool
     ensures { result ≡ (eqb kind 5 || eqb kind 6) }
 {
-    (kind == 5) | (kind == 6)
+    matches!(kind, 5 | 6)
 }
 
 // Z in its range for a calibration, 0 for an annual test.
@@ -127,105 +86,88 @@ fn z_fits(kind: u8, z: i32) -> bool
     if kind == 5 {
         return calibration::z_ranged(z);
     }
-    (z <= 0) & (0 <= z)
+    z == 0
 }
 
 // Rows 11, 12 and 13.
-fn first_rows(st: State, kind: u8, minute: u32, z: i32) -> u32
-    ensures { result ≡ first_rows (facts_of st) kind minute z }
+fn first_rows(st: State, closing: Closing) -> Result<(), Refusal>
+    ensures { outcome_of result ≡ first_rows (facts_of st) closing.kind closing.minute closing.z }
 {
     if !st.begun {
-        return 11;
+        return Err(Refusal::Place);
     }
-    if (minute < st.minute) | (100000000 < minute) {
-        return 12;
+    if closing.minute < st.minute || 100000000 < closing.minute {
+        return Err(Refusal::Minute);
     }
-    if !z_fits(kind, z) {
-        return 13;
+    if !z_fits(closing.kind, closing.z) {
+        return Err(Refusal::Range);
     }
-    0
+    Ok(())
 }
 
 // A calibration closing over the pairs that wait, in the target where no row refuses it.
-fn close_calibration(st: State, minute: u32, z: i32, target: &mut [u8]) -> u32
+fn close_calibration(st: State, minute: u32, z: i32, target: &mut [u8]) -> Result<(), Refusal>
     requires { (length target.old ≡ 40) × Sound 4000000000 st × SettingSound st.setting × ZRanged z }
-    ensures value { result ≡ (calibration_of (facts_of st) z).refusal }
-    ensures target_after { target.new ≡ kept result (calibration_record (calibration_of (facts_of st) z) minute z) target.old }
+    ensures value { outcome_of result ≡ (calibration_of (facts_of st) z).refusal }
+    ensures target_after { target.new ≡ kept (outcome_of result) (calibration_record (calibration_of (facts_of st) z) minute z) target.old }
 {
-    let c = closing::calibration_result(st, z);
-    if c.refusal != 0 {
-        return c.refusal;
-    }
-    write_calibration(target, c, minute, z);
-    0
+    let figures = closing::calibration_result(st, z)?;
+    write_calibration(target, figures, minute, z);
+    Ok(())
 }
 
 // An annual closing, in the target where no row refuses it.
-fn close_annual(st: State, minute: u32, target: &mut [u8]) -> u32
+fn close_annual(st: State, minute: u32, target: &mut [u8]) -> Result<(), Refusal>
     requires { (length target.old ≡ 40) × Sound 4000000000 st × SettingSound st.setting }
-    ensures value { result ≡ (annual_of (facts_of st)).refusal }
-    ensures target_after { target.new ≡ kept result (annual_record (annual_of (facts_of st)) (length (facts_of st).pending) minute) target.old }
+    ensures value { outcome_of result ≡ (annual_of (facts_of st)).refusal }
+    ensures target_after { target.new ≡ kept (outcome_of result) (annual_record (annual_of (facts_of st)) (length (facts_of st).pending) minute) target.old }
 {
-    let t = closing::annual_result(st);
-    if t.refusal != 0 {
-        return t.refusal;
-    }
-    write_annual(target, t, st.pending, minute);
-    0
+    let verdicts = closing::annual_result(st)?;
+    write_annual(target, verdicts, st.pending, minute);
+    Ok(())
 }
 
 // A closing of either kind after the records before it, in the target where no row refuses it.
-fn close(st: State, kind: u8, minute: u32, z: i32, target: &mut [u8]) -> u32
+fn close(st: State, closing: Closing, target: &mut [u8]) -> Result<(), Refusal>
     requires { (length target.old ≡ 40) × Sound 4000000000 st }
-    ensures value { result ≡ closing_refusal (facts_of st) kind minute z }
-    ensures target_after { target.new ≡ kept result (closing_of (facts_of st) kind minute z) target.old }
+    ensures value { outcome_of result ≡ closing_refusal (facts_of st) closing.kind closing.minute closing.z }
+    ensures target_after { target.new ≡ kept (outcome_of result) (closing_of (facts_of st) closing.kind closing.minute closing.z) target.old }
 {
-    let n = first_rows(st, kind, minute, z);
-    if n != 0 {
-        return n;
+    first_rows(st, closing)?;
+    if closing.kind == 5 {
+        return close_calibration(st, closing.minute, closing.z, target);
     }
-    if kind == 5 {
-        return close_calibration(st, minute, z, target);
-    }
-    close_annual(st, minute, target)
+    close_annual(st, closing.minute, target)
 }
 
-// Making a closing for a block of the edition told into the target, with any state, any edition, any bytes and any target.
+// Making a closing for a block of the edition told into the target, with any state, any edition, any bytes, any closing and any target.
 pub fn make_closing(
     st: State,
     edition: u8,
     bytes: &[u8],
-    kind: u8,
-    minute: u32,
-    z: i32,
+    closing: Closing,
     target: &mut [u8],
-) -> Made
-    ensures value { result ≡ make_of st edition bytes.now kind minute z (length target.old) }
-    ensures target_after { target.new ≡ made_bytes st edition bytes.now kind minute z target.old }
+) -> Result<(), Refused>
+    ensures value { made_by result ≡ make_of st edition bytes.now closing.kind closing.minute closing.z (length target.old) }
+    ensures place { PlaceOfTwelve result }
+    ensures target_after { target.new ≡ made_bytes st edition bytes.now closing.kind closing.minute closing.z target.old }
 {
     if target.len() != 40 {
-        return ended(1, 255);
+        return Err(Refusal::Length.into());
     }
     if !forming::records_fit(0, 11, bytes.len()) {
-        return ended(6, 255);
+        return Err(Refusal::Records.into());
     }
-    if !closes(kind) {
-        return ended(6, 255);
+    if !closes(closing.kind) {
+        return Err(Refusal::Records.into());
     }
     if !taking::ready(st) {
-        return ended(7, 255);
+        return Err(Refusal::State.into());
     }
-    let told = blocks::told(st.edition, edition);
-    if told != 0 {
-        return ended(told as u32, 255);
+    blocks::told(st.edition, edition)?;
+    let before = forming::run_records(taking::open(st, edition), bytes)?;
+    match close(before, closing, target) {
+        Ok(()) => Ok(()),
+        Err(row) => Err(Refused::at(row, (bytes.len() / 40) as u8)),
     }
-    let ran = forming::run_records(taking::open(st, edition), bytes);
-    if ran.refusal != 0 {
-        return ended(ran.refusal, ran.index);
-    }
-    let refusal = close(ran.state, kind, minute, z, target);
-    if refusal != 0 {
-        return ended(refusal, (bytes.len() / 40) as u32);
-    }
-    ended(0, 255)
 }

@@ -1,5 +1,5 @@
 -- A state that agrees with a history refuses a record as the history does, and otherwise agrees, after it, with the longer history.
-use Rattle.std.specs.Prelude.{◌≡◌, refl, Bool, not, ◌&&◌, ◌||◌, List, [], ◌∷◌, ◌++◌, map, ℕ, suc, ◌+◌, ◌-◌, ◌≤◌, ◌<◌, T, leb, ℤ, length, take, set, replicate, if◌then◌else◌}
+use Rattle.std.specs.Prelude.{◌≡◌, refl, Bool, not, ◌&&◌, ◌||◌, List, [], ◌∷◌, ◌++◌, map, ℕ, suc, ◌+◌, ◌-◌, ◌≤◌, ◌<◌, T, leb, ℤ, length, take, set, replicate, if◌then◌else◌, Some, None}
 use Rattle.std.proofs.Math.Path.{sym}
 use Rattle.std.proofs.Common.{ap, ◌∙◌, append_assoc, arith, add-one, length-append, take_at}
 use Rattle.std.proofs.Math.Bool.{true, false}
@@ -14,16 +14,13 @@ use Rattle.charts.proofs.ChartLaws.{charted}
 use Rattle.charts.specs.declared.Chart.{Chart}
 use Rattle.records.specs.Lists.{those_since}
 use Rattle.records.specs.Record.{Record, kind, mark, minute, setting_of, difference_of, waiting_of, function_of, formed_of, ranged_of}
-use Rattle.records.specs.Kinds.{Point, at_zero, at_span, number, reads, resets, sets, pairs, empties, calibrates, fails, deviation_of}
+use Rattle.records.specs.Kinds.{Point, at_zero, at_span, number, reads, resets, sets, pairs, empties, calibrates, fails, deviation_of, Demand}
 use Rattle.records.specs.Table.{Facts, misplaced, untimely, kind_refusal, reading_refusal, chart_refusal, pair_refusal, refusal_in}
 use Rattle.records.specs.History.{Entry, History, on, begun_in, last_minute, setting_in, started_in, differences_in, pending_in, function_in, total_in, outside_in, weeks_over, week_calls, calls_in, oldest, first_call, facts_in, refusal_of}
 use Rattle.records.specs.State.{no_pair, no_pairs, initial_of, facts_of, chart_after, turns_from, judges, raised_of, applied_to}
 use Rattle.records.specs.WeekLaws.{Ordered, total_step, outside_step, weeks_step}
 use Rattle.records.specs.Agreement.{Taken, reading_of, readings_since, chart_in, padded, demand_of, Agrees}
 use Rattle.records.specs.declared.state.Waiting.{Waiting}
-use Rattle.records.specs.declared.state.Calibration.TheVariants.{InForce}
-use Rattle.records.specs.declared.state.Demand.{Demand}
-use Rattle.records.specs.declared.state.Demand.TheVariants.{Quiet, Since}
 use Rattle.records.specs.declared.state.State.{State}
 
 -- ---- what acceptance tells of the record
@@ -246,11 +243,11 @@ raised_first ms m = go (oldest ms)
 
 raised_twice : (d : Demand) (m : ℕ) → raised_of (raised_of d m) m ≡ raised_of d m
 unfolding raised_of
-raised_twice Quiet m = refl
-raised_twice (Since x) m = refl
+raised_twice None m = refl
+raised_twice (Some x) m = refl
 
 demand_step : (h : History) (r : Entry)
-    → (if calibrates r.bytes then Quiet else (if fails r.bytes || week_calls h r then raised_of (demand_of (first_call h)) (minute r.bytes) else demand_of (first_call h))) ≡ demand_of (first_call (r ∷ h))
+    → (if calibrates r.bytes then None else (if fails r.bytes || week_calls h r then raised_of (demand_of (first_call h)) (minute r.bytes) else demand_of (first_call h))) ≡ demand_of (first_call (r ∷ h))
 unfolding first_call calls_in
 demand_step h r = go (calibrates r.bytes) (fails r.bytes) (week_calls h r)
   where
@@ -261,7 +258,7 @@ demand_step h r = go (calibrates r.bytes) (fails r.bytes) (week_calls h r)
     ms = calls_in h
 
     go : (a b w : Bool)
-        → (if a then Quiet else (if b || w then raised_of (demand_of (oldest ms)) m else demand_of (oldest ms)))
+        → (if a then None else (if b || w then raised_of (demand_of (oldest ms)) m else demand_of (oldest ms)))
         ≡ demand_of (oldest (if a then [] else (if b then m ∷ [] else []) ++ (if w then m ∷ [] else []) ++ ms))
     go true b w = refl
     go false true true = sym (raised_first (m ∷ ms) m ∙ ap (λ (d : Demand). raised_of d m) (raised_first ms m) ∙ raised_twice (demand_of (oldest ms)) m)
@@ -273,7 +270,7 @@ setting_step : (h : History) (r : Entry) → (if sets r.bytes then setting_of r.
 unfolding setting_in
 setting_step h r = refl
 
-function_step : (h : History) (r : Entry) → (if calibrates r.bytes then InForce (function_of r.bytes) else function_in h) ≡ function_in (r ∷ h)
+function_step : (h : History) (r : Entry) → (if calibrates r.bytes then Some (function_of r.bytes) else function_in h) ≡ function_in (r ∷ h)
 unfolding function_in
 function_step h r = refl
 
@@ -307,13 +304,13 @@ agrees_after h st t A r d e = record {
     settings : (if sets r.bytes then setting_of r.bytes else st.setting) ≡ setting_in (r ∷ h)
     settings = rw A.setting (setting_step h r)
 
-    functions : (if calibrates r.bytes then InForce (function_of r.bytes) else st.calibration) ≡ function_in (r ∷ h)
+    functions : (if calibrates r.bytes then Some (function_of r.bytes) else st.calibration) ≡ function_in (r ∷ h)
     functions = rw A.calibration (function_step h r)
 
     calls : turns_from st.minute (minute r.bytes) && judges st ≡ week_calls h r
     calls = judged_step h r st A
 
-    demands : (if calibrates r.bytes then Quiet else (if fails r.bytes || turns_from st.minute (minute r.bytes) && judges st then raised_of st.demand (minute r.bytes) else st.demand)) ≡ demand_of (first_call (r ∷ h))
+    demands : (if calibrates r.bytes then None else (if fails r.bytes || turns_from st.minute (minute r.bytes) && judges st then raised_of st.demand (minute r.bytes) else st.demand)) ≡ demand_of (first_call (r ∷ h))
     demands = rw (calls, A.demand) (demand_step h r)
 
 -- ---- the beginning, and an initial state's agreement with the empty history

@@ -1,5 +1,5 @@
 -- What a state answers on alarms and usability is what the history says, where the two agree.
-use Rattle.std.specs.Prelude.{◌≡◌, refl, Bool, true, false, List, [], map, ℕ, ◌-◌, ◌≤◌, if◌then◌else◌}
+use Rattle.std.specs.Prelude.{◌≡◌, refl, Bool, true, false, List, [], map, ℕ, ◌-◌, ◌≤◌, if◌then◌else◌, None, Some}
 use Rattle.std.proofs.Common.{arith}
 use Rattle.std.proofs.Math.Option.{Option, none, some}
 use Rattle.charts.specs.Tests.{Answers, answers_not, answers_and, answers_le, answers_as}
@@ -8,14 +8,12 @@ use Rattle.charts.specs.Runs.{Alarm, rising, falling, precision, Stands}
 use Rattle.charts.specs.ChartLaws.{Reading, after_readings, alarm_of}
 use Rattle.charts.proofs.ChartLaws.{alarms_after, blank_answers}
 use Rattle.charts.specs.declared.Alarms.{Alarms}
-use Rattle.records.specs.Kinds.{Point, at_zero, at_span, deviation_of}
+use Rattle.records.specs.Kinds.{Point, at_zero, at_span, deviation_of, Calibration}
 use Rattle.records.specs.Record.{difference_of}
 use Rattle.records.specs.History.{History, on, last_minute, setting_in, started_in, differences_in, function_in, first_call, AlarmStands, minute_of, Recent, Usable}
 use Rattle.records.specs.Agreement.{reading_of, readings_since, chart_in, demand_of, Agrees}
 use Rattle.records.proofs.AgreementLaws.{differences_of}
 use Rattle.records.specs.Answers.{zero_alarms, span_alarms, silent, young_of, recent_of, usable_of}
-use Rattle.records.specs.declared.state.Calibration.{Calibration}
-use Rattle.records.specs.declared.state.Calibration.TheVariants.{Absent, InForce}
 use Rattle.records.specs.declared.state.State.{State}
 
 -- the alarms of a chart's state
@@ -52,11 +50,11 @@ silent_says c h st A =
     (λ f. ((f rising, f falling), f precision))
 
 young_says : (limit m : ℕ) (k : Calibration) → Answers (young_of limit m k) ((f : ℕ) × (minute_of k ≡ some f) × (m - f ≤ limit))
-young_says limit m Absent = record { sure = λ x. absurd x; back = λ p. absurd (nope p.0 p.1) }
+young_says limit m None = record { sure = λ x. absurd x; back = λ p. absurd (nope p.0 p.1) }
   where
     nope : (f : ℕ) → ◌≡◌ {A = Option ℕ} none (some f) → ⊥
     nope f e = let z : ◌≡◌ {A = ℕ} 0 1 = cc in omega arith
-young_says limit m (InForce g) = answers_as (answers_le (m - g.minute) limit) (λ x. (g.minute, refl, x)) (λ p. same p.0 p.1 p.2)
+young_says limit m (Some g) = answers_as (answers_le (m - g.minute) limit) (λ x. (g.minute, refl, x)) (λ p. same p.0 p.1 p.2)
   where
     same : (f : ℕ) → some g.minute ≡ some f → m - f ≤ limit → m - g.minute ≤ limit
     same f e l = let q : g.minute ≡ f = cc in rw q l

@@ -5,14 +5,13 @@ use mathlib.Core.Logic.{◌⊎◌, inl, inr, ⊎_elim}
 use Prim.Native.Nat.{ℕ, zero, suc, ◌+◌, ◌≤◌}
 use native.Mathlib.Omega.{arith}
 use lib.Dec.{eqb}
-use Rattle.std.specs.Prelude.{if◌then◌else◌}
+use Rattle.std.specs.Prelude.{if◌then◌else◌, None, Some}
+use Rattle.std.specs.Option.{option_or}
 use Rattle.charts.specs.Tests.{if_all}
 use Rattle.records.specs.Record.{Record, kind, mark, minute, setting_of, waiting_of}
-use Rattle.records.specs.Kinds.{reads, resets, sets, pairs, empties, calibrates, passes, fails, counts, outside_by}
+use Rattle.records.specs.Kinds.{reads, resets, sets, pairs, empties, calibrates, passes, fails, counts, outside_by, Demand}
 use Rattle.records.specs.State.{chart_after, turns_from, judges, raised_of, applied_to}
 use Rattle.records.specs.StateParts.{with_setting, with_zero, with_span, with_reading, with_reset, with_pair, emptied, with_failure, with_demand, with_function, with_calibration, with_period, with_annual, with_tally, with_value, judged_of}
-use Rattle.records.specs.declared.state.Demand.{Demand}
-use Rattle.records.specs.declared.state.Demand.TheVariants.{Quiet, Since}
 use Rattle.records.specs.declared.state.State.{State}
 
 past : {a k : ℕ} → a ≤ k → (k ≡ a → ⊥) → a + 1 ≤ k
@@ -26,10 +25,16 @@ no_kind l h n1 n2 n3 n4 n5 n6 n7 n8 = over h (past (past (past (past (past (past
     over h l = omega arith
 
 -- a call on the record of a call changes nothing
+-- the first call stays the first, as `Option::or` keeps it
+pub raised_or : (d : Demand) (m : ℕ) → option_or d (Some m) ≡ raised_of d m
+unfolding raised_of
+raised_or None m = refl
+raised_or (Some first) m = refl
+
 raised_again : (b : Bool) (d : Demand) (m : ℕ) → raised_of (if b then raised_of d m else d) m ≡ raised_of d m
 unfolding raised_of
-raised_again true Quiet m = refl
-raised_again true (Since n) m = refl
+raised_again true None m = refl
+raised_again true (Some n) m = refl
 raised_again false d m = refl
 
 two_marks : {n : ℕ} → n ≤ 1 → (n ≡ 0) ⊎ (n ≡ 1)

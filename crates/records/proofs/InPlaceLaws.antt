@@ -3,7 +3,6 @@ use mathlib.Core.Path.{◌≡◌}
 use mathlib.Core.Bool.{Bool, true, false}
 use Prim.Native.Nat.{ℕ, ◌+◌}
 use lib.Dec.{eqb, leb}
-use lib.ListN.{length}
 use borrow.Author.Tests.{ne_eqb, eqb-true, leb-true, le-ltb}
 use Rattle.std.specs.Prelude.{if◌then◌else◌}
 use Rattle.charts.specs.Tests.{and_both}
@@ -19,13 +18,12 @@ use Rattle.records.specs.declared.state.State.{State}
 
 -- ---- in_week_of
 
-pub in_week : (k : ℕ) (st : State) (r : Record) → in_week_of k st r ≡ true → length r ≡ 40 → Sound 4000000000 st → refusal_in (facts_of st) r ≡ 0
+pub in_week : (k : ℕ) (st : State) (r : Record) → in_week_of k st r ≡ true → Sound 4000000000 st → refusal_in (facts_of st) r ≡ 0
     → InWeek k st r
 unfolding in_week_of
-in_week k st r t h s a =
+in_week k st r t s a =
     let p = and_both (eqb (kind r) k) (leb (week_of (minute r)) (week_of st.minute)) t in
     record {
-      size = h;
       sound = s;
       accepted = a;
       is = eqb-true (kind r) k p.0;

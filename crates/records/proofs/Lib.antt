@@ -1,4 +1,6 @@
-pub mod ByteLoops
+pub mod OutcomeLaws
+pub mod NoBits
+pub mod LittleEndian
 pub mod SignedLaws
 pub mod ApplyLaws
 pub mod InPlaceLaws

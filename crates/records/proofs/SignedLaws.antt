@@ -1,15 +1,19 @@
 -- Signed numbers that a call gives, as the machine reads them back from their bits.
 use mathlib.Core.Path.{◌≡◌, sym, ap, ◌∙◌, subst}
 use mathlib.Core.Bool.{Bool}
-use Prim.Native.Nat.{ℕ, ◌^◌, ◌<◌, ◌≤◌}
+use Prim.Native.Nat.{ℕ, ◌^◌, ◌<◌}
 use native.Mathlib.Omega.{arith}
-use lib.Dec.{T}
+use lib.Dec.{T, eqb}
 use lib.IntN.{ℤ, pos, negsuc, nat_abs, ◌-ℤ◌}
 use lib.Signed.{mag, non_neg, yes_non_neg}
 use mir.Syntax.{Width, w32, w64}
 use mir.Val.{Fits, SFits, to_z, of_z, hbits, bits}
 use mir.Facts.{to_z-of_z, to_z_pos}
-use Rattle.charts.specs.Integers.{diff, le_ud, ud_le, ud_eq}
+use Rattle.std.proofs.Math.Facts.{eqb_yes, yes_eqb, and_yes, yes_and}
+use Rattle.std.proofs.Common.{le→leb}
+use Rattle.std.specs.Int.Signed.{le_z, le_z_yes}
+use Rattle.charts.specs.Tests.{same_answer}
+use Rattle.charts.specs.Integers.{diff, le_ud, ud_le, ud_eq, ≤ℤ-antisymm}
 use Rattle.charts.specs.SignedLocals.{result}
 use Rattle.calibration.specs.Pairs.{Between, between_of}
 use Rattle.calibration.specs.PairLaws.{wide_need, wide_between}
@@ -28,13 +32,28 @@ given_wide x ok = wide_need {z = x} (record { sfits = ok })
 pub given_between : (a b : ℤ) {x z : ℤ} {r : Bool} → mag x < 2 ^ hbits w32 → x ≡ z → r ≡ between_of a b (to_z w64 (of_z w64 (to_z w32 (of_z w32 x)))) → r ≡ between_of a b z
 given_between a b ok e h = wide_between a b (record { sfits = ok }) h ∙ ap (between_of a b) e
 
--- whether that is the same as a field of a struct, or as a small count
-pub given_same : (w : Width) {x y z : ℤ} {r : Bool} → mag x < 2 ^ hbits w → x ≡ z → SFits w y → r ≡ sameℤ (to_z w (of_z w x)) (to_z w (of_z w y)) → r ≡ sameℤ z y
-given_same w {y} {z} ok e f h = h ∙ ap (λ (u : ℤ). sameℤ u (to_z w (of_z w y))) (given w ok e) ∙ ap (sameℤ z) (to_z-of_z f)
+-- ---- the same number
 
-pub given_count : (n : ℕ) {x z : ℤ} {r : Bool} → n ≤ 30 → mag x < 2 ^ hbits w32 → x ≡ z → r ≡ sameℤ (to_z w32 (of_z w32 x)) (to_z w32 n) → r ≡ sameℤ z (pos n)
-given_count n {z} small ok e h =
-    h ∙ ap (λ (u : ℤ). sameℤ u (to_z w32 n)) (given w32 ok e) ∙ ap (sameℤ z) (to_z_pos w32 {n = n} (omega arith))
+le_same : (a : ℤ) → T (le_z a a)
+le_same (pos n) = le→leb n n (omega arith)
+le_same (negsuc n) = le→leb n n (omega arith)
+
+pub same_is : (a b : ℤ) → T (sameℤ a b) → a ≡ b
+same_is a b t = let p = and_yes (le_z a b) (le_z b a) t in ≤ℤ-antisymm (le_z_yes p.0) (le_z_yes p.1)
+
+is_same : (a b : ℤ) → a ≡ b → T (sameℤ a b)
+is_same a b e = rw e (yes_and (le_z b b) (le_z b b) (le_same b) (le_same b))
+
+-- the result of a call and a number that fits: they are the same where their bits are
+pub same_bits : (w : Width) {x y z : ℤ} → mag x < 2 ^ hbits w → x ≡ z → SFits w y → eqb (of_z w x) (of_z w y) ≡ sameℤ z y
+same_bits w {x} {y} {z} ok e f =
+    let back = to_z-of_z {w = w} {z = x} (record { sfits = ok }) in
+    same_answer {P = z ≡ y}
+    (record {
+      sure = λ t. sym e ∙ sym back ∙ ap (to_z w) (eqb_yes {a = of_z w x} {b = of_z w y} t) ∙ to_z-of_z f;
+      back = λ p. yes_eqb {a = of_z w x} {b = of_z w y} (ap (of_z w) (e ∙ p));
+    })
+    (record { sure = same_is z y; back = is_same z y })
 
 -- a number in a range that is not below 0 is cast to an unsigned type
 pub unsigned_need : (w : Width) {a b : ℕ} {y z : ℤ} → b < 2 ^ bits w → y ≡ z → Between (pos a) (pos b) z → T (non_neg y) × Fits w (nat_abs y)

@@ -1,5 +1,5 @@
 -- A fresh state is sound, and an accepted record keeps a state so.
-use Rattle.std.specs.Prelude.{◌≡◌, refl, Bool, true, false, not, ◌&&◌, List, [], ◌∷◌, map, ℕ, zero, suc, ◌+◌, ◌≤◌, ◌<◌, eqb, set, if◌then◌else◌}
+use Rattle.std.specs.Prelude.{◌≡◌, refl, Bool, true, false, not, ◌&&◌, List, [], ◌∷◌, map, ℕ, zero, suc, ◌+◌, ◌≤◌, ◌<◌, eqb, set, if◌then◌else◌, Some}
 use Rattle.std.proofs.Common.{subst, ◌∙◌, arith, add-one, length-set}
 use Rattle.std.proofs.Math.Dec.{T}
 use Rattle.std.proofs.Math.ListN.{length, take, length-take, length-map}
@@ -21,7 +21,6 @@ use Rattle.records.specs.State.{no_pairs, initial_of, facts_of, chart_after, tur
 use Rattle.records.specs.Soundness.{SettingSound, WaitingSound, AllSound, CalibrationSound, BegunSound, Sound}
 use Rattle.records.specs.declared.state.Setting.{Setting}
 use Rattle.records.specs.declared.state.Waiting.{Waiting}
-use Rattle.records.specs.declared.state.Calibration.TheVariants.{InForce}
 use Rattle.records.specs.declared.state.State.{State}
 
 pub initial_sound : (analyser : ℕ) → Sound 0 (initial_of analyser)
@@ -162,7 +161,7 @@ module _ (st : State) (r : Record) (A : Accepted (facts_of st) r) where
   waiting_after t = waiting_sound r (waiting_fields r (waiting_ranged_lem r A.ranged (eqb_yes t))) A.until
 
 module _ (m : ℕ) (st : State) (r : Record) (S : Sound m st) (A : Accepted (facts_of st) r) where
-  calibration_after : CalibrationSound (if calibrates r then InForce (function_of r) else st.calibration)
+  calibration_after : CalibrationSound (if calibrates r then Some (function_of r) else st.calibration)
   unfolding calibrates sets facts_of
   calibration_after = if_all CalibrationSound (calibrates r) _ _ in_force (λ t. S.calibration)
     where

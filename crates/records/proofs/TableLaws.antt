@@ -1,22 +1,20 @@
 -- What the table says of a record that it does not refuse.
-use Rattle.std.specs.Prelude.{◌≡◌, refl, Bool, true, false, not, ◌&&◌, List, map, ℕ, ◌-◌, ◌*◌, ◌≤◌, ◌<◌, T, leb, ltb, eqb, ℤ, pos, length, if◌then◌else◌}
+use Rattle.std.specs.Prelude.{◌≡◌, refl, Bool, true, false, not, ◌&&◌, List, map, ℕ, ◌-◌, ◌*◌, ◌≤◌, ◌<◌, T, leb, ltb, eqb, ℤ, pos, length, if◌then◌else◌, None, Some}
 use Rattle.std.proofs.Common.{sym, ap, subst, ◌∙◌, arith, leb-false, eqb-true, ne_eqb}
 use Rattle.std.proofs.lemmas.Bool.{not-false, eqb-false}
 use Rattle.std.proofs.lemmas.List.{length-map}
-use Rattle.std.specs.Int.Signed.{le_z, le_z_yes}
+use Rattle.std.specs.Int.Signed.{le_z}
 use Rattle.std.proofs.Math.Facts.{and_yes, or_no, leb_yes, ltb_no}
 use Rattle.charts.specs.Tests.{if_all}
-use Rattle.charts.specs.Integers.{≤ℤ-antisymm}
 use Rattle.calibration.specs.Calibration.{count_fits, divisor_of, fit_from, fit_of, flat_of, line_fits, refused_fit, slope_of, slope_ranged_of, some_beyond, sums_of}
-use Rattle.calibration.specs.declared.Fitted.{Fitted}
+use Rattle.calibration.specs.Outcomes.{Fitted}
 use Rattle.calibration.specs.declared.Line.{Line}
 use Rattle.calibration.specs.declared.Pair.{Pair}
 use Rattle.calibration.specs.declared.Requirements.{Requirements}
 use Rattle.records.specs.Record.{Record, kind, mark, minute, formed_of, ranged_of, field, long_field, length_of, coverage_of, z_of, function_of}
-use Rattle.records.specs.Kinds.{response_of, line_of}
+use Rattle.records.specs.Kinds.{response_of, line_of, Calibration}
+use Rattle.records.proofs.SignedLaws.{same_is}
 use Rattle.records.specs.Table.{Facts, misplaced, untimely, chart_refusal, reading_refusal, last_of, follows, times_fit, pair_refusal, days_fit, pair_of_waiting, calibration_of, annual_by, annual_of, sameℤ, pass_mark, stores_fit, stores_test, calibration_refusal, annual_refusal, in_force, value_refusal, kind_refusal, refusal_in}
-use Rattle.records.specs.declared.state.Calibration.{Calibration}
-use Rattle.records.specs.declared.state.Calibration.TheVariants.{Absent, InForce}
 
 -- ---- a row that was passed
 
@@ -203,9 +201,6 @@ calibration_count f z h =
     (λ t. if_all Few (not (days_fit f.pending)) _ _ (λ u. omega arith)
     (λ u. few_fit f.edition f.setting.requirements z (map pair_of_waiting f.pending) (omega (arith, length-map f.pending pair_of_waiting))))
 
-same_is : (a b : ℤ) → T (sameℤ a b) → a ≡ b
-same_is a b t = let p = and_yes (le_z a b) (le_z b a) t in ≤ℤ-antisymm (le_z_yes p.0) (le_z_yes p.1)
-
 -- the stored function is the one worked out
 pub stored_line : (c : Fitted) (r : Record) → stores_fit c r ≡ true → line_of (function_of r) ≡ c.line
 unfolding stores_fit line_of function_of
@@ -230,5 +225,5 @@ annual_passes f r e =
     record { in_force = by_function f.calibration o.0; tests = o.0; stores = not-false (stores_test (annual_of f) (length f.pending) r) s.0 }
   where
     by_function : (k : Calibration) → (annual_by k f).refusal ≡ 0 → in_force k ≡ true
-    by_function Absent e = absurd (omega arith)
-    by_function (InForce l) e = refl
+    by_function None e = absurd (omega arith)
+    by_function (Some l) e = refl

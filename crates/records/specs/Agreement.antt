@@ -1,18 +1,16 @@
 -- The state is the summary of the history: what it means that they agree. Each field is an equation, but for the analyser and the block
 -- number, which the history does not have, and the edition, since a block may be open with no record yet (paper 02, C-12).
-use Rattle.std.specs.Prelude.{◌≡◌, List, [], ◌∷◌, ◌++◌, map, ℕ, ◌-◌, length, replicate, if◌then◌else◌}
+use Rattle.std.specs.Prelude.{◌≡◌, List, [], ◌∷◌, ◌++◌, map, ℕ, ◌-◌, length, replicate, if◌then◌else◌, None, Some}
 use Rattle.std.proofs.Math.Option.{Option, none, some}
 use Rattle.charts.specs.Charts.{blank, reset_of}
 use Rattle.charts.specs.ChartLaws.{Reading, after_readings}
 use Rattle.charts.specs.declared.Chart.{Chart}
 use Rattle.records.specs.Lists.{since, those}
 use Rattle.records.specs.Record.{difference_of}
-use Rattle.records.specs.Kinds.{Point, at_zero, at_span, reads, resets, deviation_of}
+use Rattle.records.specs.Kinds.{Point, at_zero, at_span, reads, resets, deviation_of, Demand}
 use Rattle.records.specs.History.{Entry, History, on, begun_in, last_minute, setting_in, started_in, pending_in, function_in, last_week, total_in, outside_in, weeks_over, first_call, refusal_of}
 use Rattle.records.specs.State.{no_pair}
 use Rattle.records.specs.declared.state.Waiting.{Waiting}
-use Rattle.records.specs.declared.state.Demand.{Demand}
-use Rattle.records.specs.declared.state.Demand.TheVariants.{Quiet, Since}
 use Rattle.records.specs.declared.state.State.{State}
 
 -- every record of the history was accepted after those before it
@@ -37,8 +35,8 @@ abbrev pub padded : List Waiting → List Waiting
 padded ws = ws ++ replicate (30 - length ws) no_pair
 
 abbrev pub demand_of : Option ℕ → Demand
-demand_of none = Quiet
-demand_of (some m) = Since m
+demand_of none = None
+demand_of (some m) = Some m
 
 pub record Agrees (h : History) (st : State) : Type 0 where
   pub begun : st.begun ≡ begun_in h

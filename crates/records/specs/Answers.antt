@@ -1,11 +1,8 @@
 -- The six alarms and usable, worked out from a state (paper 01, 'Usable').
-use Rattle.std.specs.Prelude.{Bool, true, false, not, ◌&&◌, ℕ, ◌-◌, leb}
+use Rattle.std.specs.Prelude.{Bool, true, false, not, ◌&&◌, ℕ, ◌-◌, leb, None, Some}
 use Rattle.charts.specs.Charts.{alarms_of}
 use Rattle.charts.specs.declared.Alarms.{Alarms}
-use Rattle.records.specs.declared.state.Calibration.{Calibration}
-use Rattle.records.specs.declared.state.Calibration.TheVariants.{Absent, InForce}
-use Rattle.records.specs.declared.state.Demand.{Demand}
-use Rattle.records.specs.declared.state.Demand.TheVariants.{Quiet, Since}
+use Rattle.records.specs.Kinds.{Calibration, Demand}
 use Rattle.records.specs.declared.state.State.{State}
 
 unfoldable pub zero_alarms : State → Alarms
@@ -19,13 +16,13 @@ silent a = (not a.rising && not a.falling) && not a.precision
 
 -- a calibration at most so many minutes old; without one, no
 abbrev pub young_of : ℕ → ℕ → Calibration → Bool
-young_of limit m Absent = false
-young_of limit m (InForce f) = leb (m - f.minute) limit
+young_of limit m None = false
+young_of limit m (Some f) = leb (m - f.minute) limit
 
 -- no call, or a first one at most so many minutes old
 abbrev pub recent_of : ℕ → ℕ → Demand → Bool
-recent_of limit m Quiet = true
-recent_of limit m (Since first) = leb (m - first) limit
+recent_of limit m None = true
+recent_of limit m (Some first) = leb (m - first) limit
 
 unfoldable pub usable_of : State → Bool
 usable_of st =

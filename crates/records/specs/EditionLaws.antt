@@ -2,18 +2,16 @@
 -- force, how many of a week's values count, and, of a next record with its own edition, which row refuses it and whether it is a value outside. Not among
 -- these are adjustments, the number of values outside, and what follows from that number: weeks over 5 %, calls, usable. They go by the editions of the
 -- records behind them.
-use Rattle.std.specs.Prelude.{◌≡◌, refl, Bool, true, false, ◌&&◌, List, [], ◌∷◌, ◌++◌, map, ℕ, suc, eqb, if◌then◌else◌}
+use Rattle.std.specs.Prelude.{◌≡◌, refl, Bool, true, false, ◌&&◌, List, [], ◌∷◌, ◌++◌, map, ℕ, suc, eqb, if◌then◌else◌, Some}
 use Rattle.std.proofs.Common.{sym, ap, ◌∙◌}
 use Rattle.charts.specs.Runs.{Alarm}
 use Rattle.records.specs.Lists.{since, those, any, those_since}
 use Rattle.records.specs.Record.{Record, setting_of, difference_of, waiting_of, function_of}
-use Rattle.records.specs.Kinds.{Point, at_zero, at_span, reads, resets, sets, pairs, empties, calibrates, passes, counts}
+use Rattle.records.specs.Kinds.{Point, at_zero, at_span, reads, resets, sets, pairs, empties, calibrates, passes, counts, Calibration}
 use Rattle.records.specs.Table.{Facts, refusal_in}
 use Rattle.records.specs.History.{Entry, History, on, setting_in, last_minute, started_in, differences_in, AlarmStands, pending_in, function_in, own_week, outside_of_week, total_in, begun_in, facts_in, refusal_of}
 use Rattle.records.specs.declared.state.Setting.{Setting}
 use Rattle.records.specs.declared.state.Waiting.{Waiting}
-use Rattle.records.specs.declared.state.Calibration.{Calibration}
-use Rattle.records.specs.declared.state.Calibration.TheVariants.{InForce}
 
 -- the records of a history without their editions
 abbrev pub without_editions : History → List Record
@@ -92,7 +90,7 @@ plain_pending (r ∷ h) =
 plain_function : (h : History) → function_in h ≡ function_in (plain h)
 unfolding function_in
 plain_function [] = refl
-plain_function (r ∷ h) = ap (λ (k : Calibration). if calibrates r.bytes then InForce (function_of r.bytes) else k) (plain_function h)
+plain_function (r ∷ h) = ap (λ (k : Calibration). if calibrates r.bytes then Some (function_of r.bytes) else k) (plain_function h)
 
 plain_begun : (h : History) → begun_in h ≡ begun_in (plain h)
 plain_begun [] = refl

@@ -1,17 +1,15 @@
 -- What the accepted records say, and nothing else: paper 01, 'Charts', 'Calibration', 'Weeks and calls (6.4.4)' and 'Usable', paper 02, C-11 to C-13,
 -- and the mission's statement 3.
 -- A history is the list of accepted records, each with the edition of its block, newest first, so that "since the last" is plain recursion.
-use Rattle.std.specs.Prelude.{◌≡◌, Bool, true, false, ◌&&◌, ◌||◌, List, [], ◌∷◌, ◌++◌, map, ℕ, zero, suc, ◌-◌, ◌≤◌, ltb, eqb, ℤ, length, if◌then◌else◌}
+use Rattle.std.specs.Prelude.{◌≡◌, Bool, true, false, ◌&&◌, ◌||◌, List, [], ◌∷◌, ◌++◌, map, ℕ, zero, suc, ◌-◌, ◌≤◌, ltb, eqb, ℤ, length, if◌then◌else◌, None, Some}
 use Rattle.std.proofs.Math.Option.{Option, none, some, get_or}
 use Rattle.charts.specs.Runs.{Alarm, Stands}
 use Rattle.records.specs.Lists.{since, those, any}
 use Rattle.records.specs.Record.{Record, minute, setting_of, difference_of, waiting_of, function_of}
-use Rattle.records.specs.Kinds.{Point, no_setting, at_zero, at_span, reads, resets, sets, pairs, empties, calibrates, passes, fails, counts, deviation_of, week_of, outside_by, exceeds}
+use Rattle.records.specs.Kinds.{Point, no_setting, at_zero, at_span, reads, resets, sets, pairs, empties, calibrates, passes, fails, counts, deviation_of, week_of, outside_by, exceeds, Calibration}
 use Rattle.records.specs.Table.{Facts, refusal_in}
 use Rattle.records.specs.declared.state.Setting.{Setting}
 use Rattle.records.specs.declared.state.Waiting.{Waiting}
-use Rattle.records.specs.declared.state.Calibration.{Calibration}
-use Rattle.records.specs.declared.state.Calibration.TheVariants.{Absent, InForce}
 
 -- an accepted record, and beside it the edition of its block (paper 02, C-12)
 pub record Entry : Type 0 where
@@ -61,8 +59,8 @@ pending_in (r ∷ h) =
 
 -- the newest passed calibration, with its stored figures
 unfoldable pub function_in : History → Calibration
-function_in [] = Absent
-function_in (r ∷ h) = if calibrates r.bytes then InForce (function_of r.bytes) else function_in h
+function_in [] = None
+function_in (r ∷ h) = if calibrates r.bytes then Some (function_of r.bytes) else function_in h
 
 -- ---- weeks
 
@@ -135,8 +133,8 @@ first_call h = oldest (calls_in h)
 
 -- the minute of the passed calibration; whether a first call, if any, is young enough
 abbrev pub minute_of : Calibration → Option ℕ
-minute_of Absent = none
-minute_of (InForce f) = some f.minute
+minute_of None = none
+minute_of (Some f) = some f.minute
 
 abbrev pub Recent : ℕ → ℕ → Option ℕ → Type 0
 Recent limit m none = Unit {0}

@@ -1,5 +1,5 @@
 -- Paper 01, 'Records', 'Weeks and calls (6.4.4)', and paper 02, C-11 and C-12: which records do what, and when a value is outside.
-use Rattle.std.specs.Prelude.{Bool, false, not, ◌&&◌, ◌||◌, ℕ, ◌*◌, ◌/◌, eqb, ltb, pos, if◌then◌else◌}
+use Rattle.std.specs.Prelude.{Option, Bool, false, not, ◌&&◌, ◌||◌, ℕ, ◌*◌, ◌/◌, eqb, ltb, pos, if◌then◌else◌, None, Some}
 use Rattle.std.specs.Int.Signed.{lt_z}
 use Rattle.calibration.specs.Calibration.{value_of}
 use Rattle.calibration.specs.declared.Line.{Line}
@@ -7,8 +7,14 @@ use Rattle.calibration.specs.declared.Standard.{Standard}
 use Rattle.records.specs.Record.{Record, kind, mark, signal_of, value_conditions}
 use Rattle.records.specs.declared.state.Setting.{Setting}
 use Rattle.records.specs.declared.state.Function.{Function}
-use Rattle.records.specs.declared.state.Calibration.{Calibration}
-use Rattle.records.specs.declared.state.Calibration.TheVariants.{Absent, InForce}
+
+-- the function in force, where there is one
+abbrev pub Calibration : Type 0
+Calibration = Option Function
+
+-- the minute of the first call for a new calibration since the last passed one, where there was one
+abbrev pub Demand : Type 0
+Demand = Option ℕ
 
 -- ---- which records do what
 
@@ -81,8 +87,8 @@ line_of f = record { slope = f.slope; intercept = f.intercept }
 -- A value lies outside the range of the function in force: its c, rounded by the edition of the value's own block, is negative or exceeds the top as it
 -- is stored. Without a function row 19 stops it, so that the first line is never asked.
 unfoldable pub outside_by : ℕ → Calibration → Setting → Record → Bool
-outside_by edition Absent s r = false
-outside_by edition (InForce f) s r =
+outside_by edition None s r = false
+outside_by edition (Some f) s r =
     let c : Standard = value_of edition s.requirements.oxygen (line_of f) (value_conditions r) (signal_of r) in
     lt_z c.0 (pos 0) || lt_z f.top.0 c.0
 

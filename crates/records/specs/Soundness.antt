@@ -1,16 +1,14 @@
 -- The range in which a state's arithmetic fits its fields: the code's own, with no sentence of paper 01. Every state that calls leave is in it,
 -- and others may be. The edition may be any number, since none overflows anything (paper 02, C-12). `most` bounds what is counted record by record: a state that has taken n blocks is sound for 12·n.
-use Rattle.std.specs.Prelude.{Bool, true, false, ◌&&◌, List, [], ◌∷◌, ℕ, ◌≤◌, leb, take}
+use Rattle.std.specs.Prelude.{Bool, true, false, ◌&&◌, List, [], ◌∷◌, ℕ, ◌≤◌, leb, take, None, Some}
 use Rattle.charts.specs.Tests.{Answers, answers_le, answers_and, answers_as}
 use Rattle.charts.specs.Soundness as C
 use Rattle.calibration.specs.Pairs.{PairRanged, pair_ranged_of, pair_answers, RequirementsRanged, requirements_ranged_of, requirements_answers}
 use Rattle.calibration.specs.Calibration.{LineRanged, line_ranged_of}
 use Rattle.calibration.specs.ConditionLaws.{line_answers}
-use Rattle.records.specs.Kinds.{line_of}
+use Rattle.records.specs.Kinds.{line_of, Calibration}
 use Rattle.records.specs.declared.state.Setting.{Setting}
 use Rattle.records.specs.declared.state.Waiting.{Waiting}
-use Rattle.records.specs.declared.state.Calibration.{Calibration}
-use Rattle.records.specs.declared.state.Calibration.TheVariants.{Absent, InForce}
 use Rattle.records.specs.declared.state.State.{State}
 
 -- a setting in its ranges
@@ -63,16 +61,16 @@ all_answers (w ∷ ws) = answers_and (waiting_answers w) (all_answers ws)
 
 -- the function in force is in the range of those that a fit gives
 abbrev pub CalibrationSound : Calibration → Type 0
-CalibrationSound Absent = Unit {0}
-CalibrationSound (InForce f) = LineRanged (line_of f)
+CalibrationSound None = Unit {0}
+CalibrationSound (Some f) = LineRanged (line_of f)
 
 abbrev pub calibration_sound_of : Calibration → Bool
-calibration_sound_of Absent = true
-calibration_sound_of (InForce f) = line_ranged_of (line_of f)
+calibration_sound_of None = true
+calibration_sound_of (Some f) = line_ranged_of (line_of f)
 
 pub calibration_answers : (c : Calibration) → Answers (calibration_sound_of c) (CalibrationSound c)
-calibration_answers Absent = record { sure = λ t. tt; back = λ u. tt }
-calibration_answers (InForce f) = line_answers (line_of f)
+calibration_answers None = record { sure = λ t. tt; back = λ u. tt }
+calibration_answers (Some f) = line_answers (line_of f)
 
 -- before the first record there is no setting to be sound
 abbrev pub BegunSound : Bool → Setting → Type 0

@@ -1,18 +1,16 @@
 -- The state (paper 01: the standing): its beginning, its refusal of a record, and what an accepted record makes of it. Its edition (paper 02, C-12) is
 -- that of the block in which the next record stands, and between blocks that of the last one: 0 before the first, which rounds as 1 does.
-use Rattle.std.specs.Prelude.{Bool, true, false, ◌&&◌, ◌||◌, List, ℕ, ◌+◌, eqb, ltb, pos, take, set, replicate, if◌then◌else◌}
+use Rattle.std.specs.Prelude.{Bool, true, false, ◌&&◌, ◌||◌, List, ℕ, ◌+◌, eqb, ltb, pos, take, set, replicate, if◌then◌else◌, None, Some, Result, Ok, Err}
+use Rattle.refusals.specs.Rows.{number_of}
+use Rattle.refusals.specs.declared.Refusal.{Refusal}
 use Rattle.charts.specs.Charts.{blank, reset_of, applied_of}
 use Rattle.charts.specs.declared.Chart.{Chart}
 use Rattle.records.specs.Record.{Record, minute, setting_of, difference_of, waiting_of, function_of}
-use Rattle.records.specs.Kinds.{Point, no_setting, at_zero, at_span, reads, resets, sets, pairs, empties, calibrates, passes, fails, counts, deviation_of, week_of, outside_by, exceeds}
+use Rattle.records.specs.Kinds.{Point, no_setting, at_zero, at_span, reads, resets, sets, pairs, empties, calibrates, passes, fails, counts, deviation_of, week_of, outside_by, exceeds, Demand}
 use Rattle.records.specs.Table.{Facts, refusal_in}
 use Rattle.records.specs.declared.state.Setting.{Setting}
 use Rattle.records.specs.declared.state.Waiting.{Waiting}
-use Rattle.records.specs.declared.state.Calibration.TheVariants.{Absent, InForce}
-use Rattle.records.specs.declared.state.Demand.{Demand}
-use Rattle.records.specs.declared.state.Demand.TheVariants.{Quiet, Since}
 use Rattle.records.specs.declared.state.State.{State}
-use Rattle.records.specs.declared.state.Stepped.{Stepped}
 
 -- a place of the pair array that holds none
 unfoldable pub no_pair : Waiting
@@ -37,11 +35,11 @@ initial_of analyser = record {
   span = blank;
   pending = 0;
   pairs = no_pairs;
-  calibration = Absent;
+  calibration = None;
   total = 0;
   outside = 0;
   over = 0;
-  demand = Quiet;
+  demand = None;
   edition = 0;
 }
 
@@ -80,8 +78,8 @@ judges st = exceeds 40 st.outside st.total || exceeds 5 st.outside st.total && e
 
 -- the first call stays the first
 unfoldable pub raised_of : Demand → ℕ → Demand
-raised_of Quiet m = Since m
-raised_of (Since first) m = Since first
+raised_of None m = Some m
+raised_of (Some first) m = Some first
 
 -- The state after an accepted record: the week is judged first where the record is of a later one, then the record is applied.
 unfoldable pub applied_to : State → Record → State
@@ -99,13 +97,23 @@ applied_to st r =
       span = chart_after st.edition at_span st.setting r st.span;
       pending = if empties r then 0 else (if pairs r then st.pending + 1 else st.pending);
       pairs = if empties r then no_pairs else (if pairs r then set st.pairs st.pending (waiting_of r) else st.pairs);
-      calibration = if calibrates r then InForce (function_of r) else st.calibration;
+      calibration = if calibrates r then Some (function_of r) else st.calibration;
       total = if passes r then 0 else (if counts r then total + 1 else total);
       outside = if passes r then 0 else (if counts r && outside_by st.edition st.calibration st.setting r then outside + 1 else outside);
       over = if passes r then 0 else (if turn && exceeds 5 st.outside st.total then st.over + 1 else st.over);
-      demand = if calibrates r then Quiet else (if fails r || turn && judges st then raised_of st.demand (minute r) else st.demand);
+      demand = if calibrates r then None else (if fails r || turn && judges st then raised_of st.demand (minute r) else st.demand);
       edition = st.edition;
     }
+
+-- what becomes of a state and a record: the refusal (0 for none), and the state after it
+pub record Stepped : Type 0 where
+  pub refusal : ℕ
+  pub state : State
+
+-- an answer to a record as such an outcome: with a refusal the state is as it was
+abbrev pub stepped : State → Result State Refusal → Stepped
+stepped st (Ok after) = record { refusal = 0; state = after }
+stepped st (Err e) = record { refusal = number_of e; state = st }
 
 -- one record: refused, with the state as it was, or applied
 unfoldable pub step_of : State → Record → Stepped

@@ -1,16 +1,13 @@
 -- The steps in which the code makes the state after a record: the week first, then what the record's kind changes.
-use Rattle.std.specs.Prelude.{Bool, true, ◌&&◌, List, ℕ, ◌+◌, eqb, set, if◌then◌else◌}
+use Rattle.std.specs.Prelude.{Bool, true, ◌&&◌, List, ℕ, ◌+◌, eqb, set, if◌then◌else◌, Some, None}
 use Rattle.charts.specs.Charts.{reset_of, applied_of}
 use Rattle.charts.specs.declared.Chart.{Chart}
 use Rattle.records.specs.Record.{Record, mark, minute, difference_of, function_of}
-use Rattle.records.specs.Kinds.{exceeds}
+use Rattle.records.specs.Kinds.{exceeds, Demand}
 use Rattle.records.specs.State.{no_pairs, turns_from, judges, raised_of}
 use Rattle.records.specs.declared.state.Setting.{Setting}
 use Rattle.records.specs.declared.state.Waiting.{Waiting}
 use Rattle.records.specs.declared.state.Function.{Function}
-use Rattle.records.specs.declared.state.Calibration.TheVariants.{InForce}
-use Rattle.records.specs.declared.state.Demand.{Demand}
-use Rattle.records.specs.declared.state.Demand.TheVariants.{Quiet}
 use Rattle.records.specs.declared.state.State.{State}
 
 -- the state with a part of it changed
@@ -47,7 +44,7 @@ with_period st = record { analyser = st.analyser; next = st.next; begun = st.beg
 
 -- a function comes into force: it starts a period and clears the calls
 unfoldable pub with_function : State → Function → State
-with_function st f = record { analyser = st.analyser; next = st.next; begun = st.begun; minute = st.minute; setting = st.setting; zero = st.zero; span = st.span; pending = st.pending; pairs = st.pairs; calibration = InForce f; total = 0; outside = 0; over = 0; demand = Quiet; edition = st.edition }
+with_function st f = record { analyser = st.analyser; next = st.next; begun = st.begun; minute = st.minute; setting = st.setting; zero = st.zero; span = st.span; pending = st.pending; pairs = st.pairs; calibration = Some f; total = 0; outside = 0; over = 0; demand = None; edition = st.edition }
 
 -- a record of minute m is at hand: the week before it is judged where m is of a later one
 unfoldable pub judged_of : State → ℕ → State

@@ -1,20 +1,18 @@
 -- Paper 01, 'Where input is stopped', rows 10 to 25, with the times, coverage, days and span of 'Calibration (6.4, 6.5)', and paper 02, C-12 and C-13.
 -- The rows ask certain facts of the records before, and the edition of the record's own block; they are the same whether read from a history or from a
 -- state.
-use Rattle.std.specs.Prelude.{Bool, true, false, not, ◌&&◌, ◌||◌, List, [], ◌∷◌, map, ℕ, suc, ◌+◌, ◌-◌, ◌*◌, leb, ltb, eqb, ℤ, pos, length, if◌then◌else◌}
+use Rattle.std.specs.Prelude.{Bool, true, false, not, ◌&&◌, ◌||◌, List, [], ◌∷◌, map, ℕ, suc, ◌+◌, ◌-◌, ◌*◌, leb, ltb, eqb, ℤ, pos, length, if◌then◌else◌, None, Some}
 use Rattle.std.proofs.Math.Option.{Option, none, some}
 use Rattle.std.specs.Int.Signed.{le_z}
 use Rattle.calibration.specs.Calibration.{count_fits, fit_of, refused_fit}
 use Rattle.calibration.specs.Annual.{test_of, refused_test}
 use Rattle.calibration.specs.declared.Pair.{Pair}
-use Rattle.calibration.specs.declared.Fitted.{Fitted}
-use Rattle.calibration.specs.declared.Tested.{Tested}
+use Rattle.calibration.specs.Outcomes.{Fitted}
+use Rattle.calibration.specs.Outcomes.{Tested}
 use Rattle.records.specs.Record.{Record, kind, mark, minute, field, long_field, formed_of, ranged_of, length_of, coverage_of, z_of}
-use Rattle.records.specs.Kinds.{sets, day_of, response_of, line_of}
+use Rattle.records.specs.Kinds.{sets, day_of, response_of, line_of, Calibration}
 use Rattle.records.specs.declared.state.Setting.{Setting}
 use Rattle.records.specs.declared.state.Waiting.{Waiting}
-use Rattle.records.specs.declared.state.Calibration.{Calibration}
-use Rattle.records.specs.declared.state.Calibration.TheVariants.{Absent, InForce}
 
 -- what the rows ask beside the record: is there one before it, the last minute, the setting, of each chart whether it is started
 -- and how many readings it has since its reset, the pairs that wait (oldest first), the function in force, and the edition of
@@ -121,8 +119,8 @@ calibration_of f z =
 
 -- an annual closing: 19, then the test's refusals, or its verdicts
 unfoldable pub annual_by : Calibration → Facts → Tested
-annual_by Absent f = refused_test 19
-annual_by (InForce l) f = test_of f.edition f.setting.requirements (line_of l) (map pair_of_waiting f.pending)
+annual_by None f = refused_test 19
+annual_by (Some l) f = test_of f.edition f.setting.requirements (line_of l) (map pair_of_waiting f.pending)
 
 abbrev pub annual_of : Facts → Tested
 annual_of f = annual_by f.calibration f
@@ -166,8 +164,8 @@ annual_refusal f r =
 -- ---- 19 for a value
 
 abbrev pub in_force : Calibration → Bool
-in_force Absent = false
-in_force (InForce f) = true
+in_force None = false
+in_force (Some f) = true
 
 unfoldable pub value_refusal : Facts → ℕ
 value_refusal f = if in_force f.calibration then 0 else 19

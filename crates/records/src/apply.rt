@@ -1,5 +1,5 @@
 // What an accepted record makes of the state.
-ghost use Rattle.std.specs.Prelude.{◌≡◌, true, false, ◌+◌, ◌<◌, ◌≤◌, length, if◌then◌else◌};
+ghost use Rattle.std.specs.Prelude.{◌≡◌, true, false, ◌+◌, ◌<◌, ◌≤◌, if◌then◌else◌};
 ghost use Rattle.charts.specs.Soundness.{Sound as Charts-as-Sound};
 ghost use Rattle.records.specs.Record.{reading_ranged, value_ranged};
 ghost use Rattle.records.specs.Kinds.{exceeds as Kinds·exceeds, outside_by};
@@ -9,9 +9,9 @@ ghost use Rattle.records.specs.State.{applied_to, facts_of, initial_of, judges a
 ghost use Rattle.records.specs.InPlace.{InWeek, in_week_of};
 ghost use Rattle.records.specs.StateParts.{emptied as StateParts·emptied, judged_of, with_annual, with_calibration, with_failure, with_function, with_pair, with_period, with_reading, with_reset, with_value};
 
-use crate::state::{Calibration, Demand, Function, Setting, State, Waiting};
+use crate::state::{Function, Setting, State, Waiting};
 use crate::{bytes, fields};
-use calibration::{Actual, Conditions, Line, Pair, Requirements};
+use calibration::{Actual, Conditions, Pair, Requirements};
 
 fn no_pair() -> Waiting
     ensures { result ≡ no_pair }
@@ -56,11 +56,11 @@ pub fn initial(analyser: u32) -> State
         span: charts::unstarted(),
         pending: 0,
         pairs: [w; 30],
-        calibration: Calibration::Absent,
+        calibration: None,
         total: 0,
         outside: 0,
         over: 0,
-        demand: Demand::Quiet,
+        demand: None,
         edition: 0,
     }
 }
@@ -82,35 +82,22 @@ fn judges(st: State) -> bool
     exceeds(40, st.outside, st.total) | (exceeds(5, st.outside, st.total) & (st.over == 5))
 }
 
-// The first call stays the first.
-fn raised(d: Demand, m: u32) -> Demand
-    ensures { result ≡ raised_of d m }
-{
-    match d {
-        Demand::Quiet => Demand::Since(m),
-        Demand::Since(first) => Demand::Since(first),
-    }
-}
-
 // The count of weeks over 5 percent, with the week that ends.
 fn weeks_over(over: u32, outside: u32, total: u32) -> u32
     requires { over < 4294967295 }
     ensures { result ≡ (if Kinds·exceeds 5 outside total then over + 1 else over) }
 {
-    if exceeds(5, outside, total) {
-        return over + 1;
-    }
-    over
+    over + u32::from(exceeds(5, outside, total))
 }
 
-fn demand_after(st: State, m: u32) -> Demand
+// The first call stays the first.
+fn demand_after(st: State, m: u32) -> Option<u32>
     ensures { result ≡ (if State·judges st then raised_of st.demand m else st.demand) }
 {
-    let d = st.demand;
     if judges(st) {
-        return raised(d, m);
+        return st.demand.or(Some(m));
     }
-    d
+    st.demand
 }
 
 // A record of minute m is at hand: the week before it is judged where m is of a later one.
@@ -165,10 +152,8 @@ fn emptied(st: State) -> State
 fn with_failure(st: State, m: u32) -> State
     ensures { result ≡ with_failure st m }
 {
-    let first = st.demand;
-    let d = raised(first, m);
     State {
-        demand: d,
+        demand: st.demand.or(Some(m)),
         ..emptied(st)
     }
 }
@@ -177,11 +162,11 @@ fn with_function(st: State, f: Function) -> State
     ensures { result ≡ with_function (StateParts·emptied st) f }
 {
     State {
-        calibration: Calibration::InForce(f),
+        calibration: Some(f),
         total: 0,
         outside: 0,
         over: 0,
-        demand: Demand::Quiet,
+        demand: None,
         ..emptied(st)
     }
 }
@@ -198,20 +183,17 @@ fn with_period(st: State) -> State
 }
 
 // Whether a value is outside, with the function in force, by the edition of its block.
-fn outside(edition: u8, k: Calibration, s: Setting, r: &[u8]) -> bool
-    requires { CalibrationSound k × SettingSound s × (length r.now ≡ 40) × (value_ranged r.now ≡ true) }
-    ensures { result ≡ outside_by edition k s r.now }
+fn outside(st: &State, r: &[u8; 40]) -> bool
+    requires { CalibrationSound st.now.calibration × SettingSound st.now.setting × (value_ranged r.now ≡ true) }
+    ensures { result ≡ outside_by st.now.edition st.now.calibration st.now.setting r.now }
 {
-    match k {
-        Calibration::Absent => false,
-        Calibration::InForce(f) => {
+    match st.calibration {
+        None => false,
+        Some(f) => {
             let c = calibration::value(
-                edition,
-                s.requirements.oxygen,
-                Line {
-                    slope: f.slope,
-                    intercept: f.intercept,
-                },
+                st.edition,
+                st.setting.requirements.oxygen,
+                f.line(),
                 fields::conditions_at(r, 12),
                 fields::field_at(r, 8),
             );
@@ -242,47 +224,41 @@ fn with_value(st: State, mark: u8, outside: bool) -> State
 }
 
 // A reading of the chart of its mark: 0 for zero, 1 for span.
-fn with_reading(st: State, r: &[u8]) -> State
-    requires { (length r.now ≡ 40) × (reading_ranged r.now ≡ true) × (reading_refusal (facts_of st) r.now ≡ 0) × Charts-as-Sound st.zero × Charts-as-Sound st.span }
+fn with_reading(st: State, r: &[u8; 40]) -> State
+    requires { (reading_ranged r.now ≡ true) × (reading_refusal (facts_of st) r.now ≡ 0) × Charts-as-Sound st.zero × Charts-as-Sound st.span }
     ensures { result ≡ with_reading st r.now }
 {
     let d = fields::difference_of(r);
     if r[1] == 0 {
-        let c = st.zero;
         return State {
-            zero: c.apply(st.edition, st.setting.zero, d),
+            zero: st.zero.apply(st.edition, st.setting.zero, d),
             ..st
         };
     }
-    let c = st.span;
     State {
-        span: c.apply(st.edition, st.setting.span, d),
+        span: st.span.apply(st.edition, st.setting.span, d),
         ..st
     }
 }
 
 // A reset of the chart of its mark.
-fn with_reset(st: State, r: &[u8]) -> State
-    requires { length r.now ≡ 40 }
+fn with_reset(st: State, r: &[u8; 40]) -> State
     ensures { result ≡ with_reset st r.now }
 {
     if r[1] == 0 {
-        let c = st.zero;
         return State {
-            zero: c.reset(),
+            zero: st.zero.reset(),
             ..st
         };
     }
-    let c = st.span;
     State {
-        span: c.reset(),
+        span: st.span.reset(),
         ..st
     }
 }
 
 // A calibration closing: with mark 1 its stored figures come into force, else it has failed.
-fn with_calibration(st: State, r: &[u8]) -> State
-    requires { length r.now ≡ 40 }
+fn with_calibration(st: State, r: &[u8; 40]) -> State
     ensures { result ≡ with_calibration st r.now }
 {
     if r[1] == 1 {
@@ -292,8 +268,7 @@ fn with_calibration(st: State, r: &[u8]) -> State
 }
 
 // An annual closing: with mark 3 it starts a period, else it has failed.
-fn with_annual(st: State, r: &[u8]) -> State
-    requires { length r.now ≡ 40 }
+fn with_annual(st: State, r: &[u8; 40]) -> State
     ensures { result ≡ with_annual st r.now }
 {
     if r[1] == 3 {
@@ -303,8 +278,8 @@ fn with_annual(st: State, r: &[u8]) -> State
 }
 
 // An accepted record: the week is judged first, then the kind is applied; the table accepts kinds 1 to 8 only.
-pub fn apply(st: State, r: &[u8]) -> State
-    requires { (length r.now ≡ 40) × Sound 4000000000 st × (refusal_in (facts_of st) r.now ≡ 0) }
+pub fn apply(st: State, r: &[u8; 40]) -> State
+    requires { Sound 4000000000 st × (refusal_in (facts_of st) r.now ≡ 0) }
     ensures { result ≡ applied_to st r.now }
 {
     let s = judged(st, bytes::read32(r, 4));
@@ -319,12 +294,7 @@ pub fn apply(st: State, r: &[u8]) -> State
         4 => with_pair(s, fields::waiting_of(r)),
         5 => with_calibration(s, r),
         6 => with_annual(s, r),
-        7 => {
-            let e = s.edition;
-            let k = s.calibration;
-            let q = s.setting;
-            with_value(s, r[1], outside(e, k, q, r))
-        }
+        7 => with_value(s, r[1], outside(&s, r)),
         8 => emptied(s),
         0 => s,
         9..=255 => s,
@@ -334,8 +304,7 @@ pub fn apply(st: State, r: &[u8]) -> State
 // ---- values and readings, which are most records, in the week of the record before: the state is changed in place
 
 // Whether a record is of the kind given and of no later week than the last one.
-pub fn in_week(kind: u8, st: State, r: &[u8]) -> bool
-    requires { length r.now ≡ 40 }
+pub fn in_week(kind: u8, st: State, r: &[u8; 40]) -> bool
     ensures { result ≡ in_week_of kind st r.now }
 {
     let m = bytes::read32(r, 4);
@@ -343,28 +312,25 @@ pub fn in_week(kind: u8, st: State, r: &[u8]) -> bool
 }
 
 // A value: the minute changes, and with mark 0 the tally.
-pub fn value(mut st: State, r: &[u8]) -> State
+pub fn value(mut st: State, r: &[u8; 40]) -> State
     requires { InWeek 7 st r.now }
     ensures { result ≡ applied_to st r.now }
 {
-    let e = st.edition;
-    let k = st.calibration;
-    let q = st.setting;
     st.begun = true;
     st.minute = bytes::read32(r, 4);
     if r[1] != 0 {
         return st;
     }
-    st.total = st.total + 1;
-    if outside(e, k, q, r) {
-        st.outside = st.outside + 1;
+    st.total += 1;
+    if outside(&st, r) {
+        st.outside += 1;
         return st;
     }
     st
 }
 
 // A reading: the minute and the chart of its mark change.
-pub fn reading(mut st: State, r: &[u8]) -> State
+pub fn reading(mut st: State, r: &[u8; 40]) -> State
     requires { InWeek 2 st r.now }
     ensures { result ≡ applied_to st r.now }
 {
@@ -372,13 +338,9 @@ pub fn reading(mut st: State, r: &[u8]) -> State
     st.begun = true;
     st.minute = bytes::read32(r, 4);
     if r[1] == 0 {
-        let c = st.zero;
-        let after = c.apply(st.edition, st.setting.zero, d);
-        st.zero = after;
+        st.zero = st.zero.apply(st.edition, st.setting.zero, d);
         return st;
     }
-    let c = st.span;
-    let after = c.apply(st.edition, st.setting.span, d);
-    st.span = after;
+    st.span = st.span.apply(st.edition, st.setting.span, d);
     st
 }

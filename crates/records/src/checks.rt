@@ -1,18 +1,20 @@
 // Where a record is stopped: the rows that ask of the records before it.
-ghost use Rattle.std.specs.Prelude.{◌≡◌, true, false, not, map, ◌+◌, ◌-◌, ◌*◌, ◌<◌, ◌≤◌, length, take, drop, if◌then◌else◌};
+ghost use Rattle.std.specs.Prelude.{◌≡◌, true, false, not, map, ◌+◌, ◌-◌, ◌*◌, ◌<◌, ◌≤◌, length, if◌then◌else◌};
+ghost use Rattle.refusals.specs.Rows.{outcome_of};
 ghost use Rattle.records.specs.Record.{kind, length_of, minute, ranged_of, waiting_ranged};
 ghost use Rattle.records.specs.Kinds.{response_of, sets};
-ghost use Rattle.records.specs.Soundness.{AllSound, SettingSound, Sound};
+ghost use Rattle.records.specs.Soundness.{SettingSound, Sound};
 ghost use Rattle.records.specs.Table.{among as Table·among, chart_refusal, days_fit, different, end_day, follows_one, last_of, misplaced as Table·misplaced, pair_of_waiting, pair_refusal, reading_refusal, times_fit, untimely as Table·untimely, value_refusal};
 ghost use Rattle.records.specs.State.{facts_of};
 
-use crate::state::{Calibration, Setting, State, Waiting};
+use crate::state::{Setting, State, Waiting};
 use crate::{bytes, fields};
-use calibration::{Actual, Conditions, Pair};
+use calibration::Pair;
+use charts::Chart;
+use refusals::Refusal;
 
 // A setting that is not the first record, or a first record that is no setting.
-pub fn misplaced(st: State, r: &[u8]) -> bool
-    requires { length r.now ≡ 40 }
+pub fn misplaced(st: State, r: &[u8; 40]) -> bool
     ensures { result ≡ Table·misplaced (facts_of st) r.now }
 {
     let kind = r[0];
@@ -23,34 +25,33 @@ pub fn misplaced(st: State, r: &[u8]) -> bool
 }
 
 // Before the last record's minute, or over 100,000,000.
-pub fn untimely(st: State, r: &[u8]) -> bool
-    requires { length r.now ≡ 40 }
+pub fn untimely(st: State, r: &[u8; 40]) -> bool
     ensures { result ≡ Table·untimely (facts_of st) r.now }
 {
     let m = bytes::read32(r, 4);
     (m < st.minute) | (100000000 < m)
 }
 
-fn chart_refusal(started: bool, readings: u32) -> u32
-    ensures { result ≡ chart_refusal started readings }
+fn chart_refusal(c: Chart) -> Result<(), Refusal>
+    ensures { outcome_of result ≡ chart_refusal c.started c.readings }
 {
-    if !started {
-        return 14;
+    if !c.started {
+        return Err(Refusal::Unstarted);
     }
-    if 100000 <= readings {
-        return 15;
+    if 100000 <= c.readings {
+        return Err(Refusal::Full);
     }
-    0
+    Ok(())
 }
 
-pub fn reading_refusal(st: State, r: &[u8]) -> u32
-    requires { length r.now ≡ 40 }
-    ensures { result ≡ reading_refusal (facts_of st) r.now }
+pub fn reading_refusal(st: State, r: &[u8; 40]) -> Result<(), Refusal>
+    ensures { outcome_of result ≡ reading_refusal (facts_of st) r.now }
 {
     if r[1] == 0 {
-        return chart_refusal(st.zero.started, st.zero.readings);
+        chart_refusal(st.zero)
+    } else {
+        chart_refusal(st.span)
     }
-    chart_refusal(st.span.started, st.span.readings)
 }
 
 // The response minutes, with their default.
@@ -72,8 +73,8 @@ fn follows(w: Waiting, start: u32, length: u32) -> bool
     (w.end <= start) & ((60 <= length) | (w.start + 60 < start))
 }
 
-fn times_fit(st: State, r: &[u8]) -> bool
-    requires { (length r.now ≡ 40) × Sound 4000000000 st × SettingSound st.setting × (waiting_ranged r.now ≡ true) }
+fn times_fit(st: State, r: &[u8; 40]) -> bool
+    requires { Sound 4000000000 st × SettingSound st.setting × (waiting_ranged r.now ≡ true) }
     ensures { result ≡ times_fit (facts_of st) r.now }
 {
     let m = bytes::read32(r, 4);
@@ -93,95 +94,63 @@ fn times_fit(st: State, r: &[u8]) -> bool
     follows(w, m - l, l)
 }
 
-pub fn pair_refusal(st: State, r: &[u8]) -> u32
-    requires { (length r.now ≡ 40) × Sound 4000000000 st × SettingSound st.setting × (waiting_ranged r.now ≡ true) }
-    ensures { result ≡ pair_refusal (facts_of st) r.now }
+pub fn pair_refusal(st: State, r: &[u8; 40]) -> Result<(), Refusal>
+    requires { Sound 4000000000 st × SettingSound st.setting × (waiting_ranged r.now ≡ true) }
+    ensures { outcome_of result ≡ pair_refusal (facts_of st) r.now }
 {
     if 30 <= st.pending {
-        return 18;
+        return Err(Refusal::Waiting);
     }
     if !times_fit(st, r) {
-        return 16;
+        return Err(Refusal::Times);
     }
     if fields::field_at(r, 12) <= 90 {
-        return 17;
+        return Err(Refusal::Coverage);
     }
-    0
+    Ok(())
 }
 
-// Whether a day is among those on which the pairs from a place on end.
-fn among(day: u32, pairs: [Waiting; 30], from: u32, n: u32) -> bool
-    requires { (from ≤ n) × (n ≤ 30) }
-    ensures { result ≡ Table·among day (map end_day (drop from (take n pairs))) }
+// Whether a day is among those on which the pairs end.
+fn among(day: u32, pairs: &[Waiting]) -> bool
+    ensures { result ≡ Table·among day (map end_day pairs.now) }
 {
-    let mut i = from;
-    while i < n {
-        let w = pairs[i as usize];
-        if w.end / 1440 == day {
-            return true;
-        }
-        i += 1;
-    }
-    false
+    pairs.iter().any(|w| day == w.end / 1440)
 }
 
 // How many different days the pairs end on.
-fn different_days(pairs: [Waiting; 30], n: u32) -> u32
-    requires { n ≤ 30 }
-    ensures { result ≡ different (map end_day (take n pairs)) }
+fn different_days(pairs: &[Waiting]) -> usize
+    ensures { result ≡ different (map end_day pairs.now) }
 {
-    let mut days: u32 = 0;
-    let mut i: u32 = 0;
-    while i < n {
-        let w = pairs[i as usize];
-        if !among(w.end / 1440, pairs, i + 1, n) {
+    let mut days = 0;
+    for (i, w) in pairs.iter().enumerate() {
+        if !among(w.end / 1440, &pairs[i + 1..]) {
             days += 1;
         }
-        i += 1;
     }
     days
 }
 
-pub fn days_fit(pairs: [Waiting; 30], n: u32) -> bool
-    requires { (0 < n) × (n ≤ 30) × AllSound (take n pairs) }
-    ensures { result ≡ days_fit (take n pairs) }
+pub fn days_fit(pairs: &[Waiting]) -> bool
+    requires { 0 < length pairs.now }
+    ensures { result ≡ days_fit pairs.now }
 {
     let first = pairs[0];
-    let last = pairs[(n - 1) as usize];
-    (3 <= different_days(pairs, n)) & (last.end <= first.start + 40320)
+    let last = pairs[pairs.len() - 1];
+    (3 <= different_days(pairs)) & (last.end.saturating_sub(first.start) <= 40320)
 }
 
 // The figures of the pairs, without their times.
 pub fn figures(waiting: [Waiting; 30]) -> [Pair; 30]
     ensures { result ≡ map pair_of_waiting waiting }
 {
-    let none = Pair {
-        signal: 0,
-        srm: Actual(0),
-        conditions: Conditions {
-            temperature: 0,
-            pressure: 0,
-            water: 0,
-            oxygen: 0,
-        },
-    };
-    let mut pairs = [none; 30];
-    let mut i: usize = 0;
-    while i < 30 {
-        let w = waiting[i];
-        let p = w.pair;
-        pairs[i] = p;
-        i += 1;
-    }
-    pairs
+    waiting.map(|w| w.pair)
 }
 
-pub fn value_refusal(st: State) -> u32
-    ensures { result ≡ value_refusal (facts_of st) }
+pub fn value_refusal(st: State) -> Result<(), Refusal>
+    ensures { outcome_of result ≡ value_refusal (facts_of st) }
 {
-    let k = st.calibration;
-    match k {
-        Calibration::Absent => 19,
-        Calibration::InForce(_) => 0,
+    if st.calibration.is_none() {
+        return Err(Refusal::Function);
     }
+    Ok(())
 }

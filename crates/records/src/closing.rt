@@ -1,167 +1,115 @@
 // Closings: the figures that the pairs that wait give, and whether a stored closing has them.
-ghost use Rattle.std.specs.Prelude.{◌≡◌, ◌≤◌, map, length, take};
+ghost use Rattle.std.specs.Prelude.{◌≡◌, Ok, ◌≤◌, map, take};
+ghost use Rattle.refusals.specs.Rows.{outcome_of};
 ghost use Rattle.calibration.specs.Pairs.{ZRanged};
-ghost use Rattle.calibration.specs.Calibration.{LineRanged, refused_fit};
+ghost use Rattle.calibration.specs.Calibration.{LineRanged};
 ghost use Rattle.calibration.specs.Annual.{test_of};
+ghost use Rattle.calibration.specs.Outcomes.{fitted, tested};
 ghost use Rattle.records.specs.Record.{z_of};
 ghost use Rattle.records.specs.Soundness.{SettingSound, Sound};
 ghost use Rattle.records.specs.Kinds.{line_of};
-ghost use Rattle.records.specs.Table.{annual_of, annual_refusal, calibration_of, calibration_refusal, pair_of_waiting, pass_mark, sameℤ, stores_fit, stores_test, test_mark};
+ghost use Rattle.records.specs.Table.{annual_of, annual_refusal, calibration_of, calibration_refusal, pair_of_waiting, pass_mark, stores_fit, stores_test, test_mark};
 ghost use Rattle.records.specs.State.{facts_of};
 
-use crate::state::{Calibration, Function, State};
+use crate::state::{Function, State};
 use crate::{checks, fields};
-use calibration::{Fitted, Line, Standard, Tested};
-
-fn refused_fit(refusal: u32) -> Fitted
-    ensures { result ≡ refused_fit refusal }
-{
-    Fitted {
-        refusal: refusal,
-        passed: false,
-        line: Line {
-            slope: 0,
-            intercept: 0,
-        },
-        top: Standard(0),
-        count: 0,
-    }
-}
+use calibration::{Basis, Figures, Verdicts};
+use refusals::Refusal;
 
 // A calibration closing over the pairs that wait.
-pub fn calibration_result(st: State, z: i32) -> Fitted
+pub fn calibration_result(st: State, z: i32) -> Result<Figures, Refusal>
     requires { Sound 4000000000 st × SettingSound st.setting × ZRanged z }
-    ensures { result ≡ calibration_of (facts_of st) z }
+    ensures { fitted result ≡ calibration_of (facts_of st) z }
 {
-    let n = st.pending;
-    if !calibration::count_fits(n) {
-        return refused_fit(20);
+    let n = st.pending as usize;
+    if !calibration::count_fits(st.pending) {
+        return Err(Refusal::Count);
     }
-    let waiting = st.pairs;
-    if !checks::days_fit(waiting, n) {
-        return refused_fit(21);
+    if !checks::days_fit(&st.pairs[..n]) {
+        return Err(Refusal::Days);
     }
-    let q = st.setting.requirements;
-    calibration::fit(st.edition, checks::figures(waiting), n, q, z)
+    let pairs = checks::figures(st.pairs);
+    let b = Basis {
+        edition: st.edition,
+        requirements: st.setting.requirements,
+    };
+    calibration::fit(&pairs[..n], b, z)
 }
 
-fn test_with(st: State, f: Function) -> Tested
+fn test_with(st: State, f: Function) -> Result<Verdicts, Refusal>
     requires { Sound 4000000000 st × SettingSound st.setting × LineRanged (line_of f) }
-    ensures { result ≡ test_of st.edition st.setting.requirements (line_of f) (map pair_of_waiting (take st.pending st.pairs)) }
+    ensures { tested result ≡ test_of st.edition st.setting.requirements (line_of f) (map pair_of_waiting (take st.pending st.pairs)) }
 {
-    let n = st.pending;
-    let waiting = st.pairs;
-    let q = st.setting.requirements;
-    calibration::annual_test(
-        st.edition,
-        checks::figures(waiting),
-        n,
-        q,
-        Line {
-            slope: f.slope,
-            intercept: f.intercept,
-        },
-    )
+    let n = st.pending as usize;
+    let pairs = checks::figures(st.pairs);
+    let b = Basis {
+        edition: st.edition,
+        requirements: st.setting.requirements,
+    };
+    calibration::annual_test(&pairs[..n], b, f.line())
 }
 
 // An annual closing over the pairs that wait, with the function in force.
-pub fn annual_result(st: State) -> Tested
+pub fn annual_result(st: State) -> Result<Verdicts, Refusal>
     requires { Sound 4000000000 st × SettingSound st.setting }
-    ensures { result ≡ annual_of (facts_of st) }
+    ensures { tested result ≡ annual_of (facts_of st) }
 {
-    let k = st.calibration;
-    match k {
-        Calibration::Absent => Tested {
-            refusal: 19,
-            variability: false,
-            function: false,
-        },
-        Calibration::InForce(f) => test_with(st, f),
+    match st.calibration {
+        None => Err(Refusal::Function),
+        Some(f) => test_with(st, f),
     }
 }
 
 // The mark of a calibration closing: 1 where passed.
-pub fn pass_mark(c: Fitted) -> u8
-    ensures { result ≡ pass_mark c }
+pub fn pass_mark(c: Figures) -> u8
+    ensures { result ≡ pass_mark (fitted (Ok c)) }
 {
-    if c.passed {
-        return 1;
-    }
-    0
+    u8::from(c.passed)
 }
 
 // The mark of an annual closing: a bit for each verdict.
-pub fn test_mark(t: Tested) -> u8
-    ensures { result ≡ test_mark t }
+pub fn test_mark(t: Verdicts) -> u8
+    ensures { result ≡ test_mark (tested (Ok t)) }
 {
-    if t.variability {
-        if t.function {
-            return 3;
-        }
-        return 1;
-    }
-    if t.function {
-        return 2;
-    }
-    0
-}
-
-// Whether two numbers are the same, as the definition tests it.
-fn same(a: i32, b: i32) -> bool
-    ensures { result ≡ sameℤ a b }
-{
-    (a <= b) & (b <= a)
-}
-
-fn same_long(a: i64, b: i64) -> bool
-    ensures { result ≡ sameℤ a b }
-{
-    (a <= b) & (b <= a)
+    u8::from(t.variability) + 2 * u8::from(t.function)
 }
 
 // Whether the stored mark and figures are those of a fit.
-fn stores_fit(c: Fitted, r: &[u8]) -> bool
-    requires { (length r.now ≡ 40) × (c.count ≤ 30) }
-    ensures { result ≡ stores_fit c r.now }
+fn stores_fit(c: Figures, r: &[u8; 40]) -> bool
+    requires { c.count ≤ 30 }
+    ensures { result ≡ stores_fit (fitted (Ok c)) r.now }
 {
-    ((r[1] == pass_mark(c)) & same(fields::field_at(r, 12), c.line.slope))
-        & (same_long(fields::long_field_at(r, 16), c.line.intercept)
-            & (same(fields::field_at(r, 24), c.top.0)
-                & same(fields::field_at(r, 28), c.count as i32)))
+    ((r[1] == pass_mark(c)) & (fields::field_at(r, 12) == c.line.slope))
+        & ((fields::long_field_at(r, 16) == c.line.intercept)
+            & ((fields::field_at(r, 24) == c.top.0) & (fields::field_at(r, 28) == c.count as i32)))
 }
 
 // Whether the stored mark and number of pairs are those of a test.
-fn stores_test(t: Tested, n: u32, r: &[u8]) -> bool
-    requires { (length r.now ≡ 40) × (n ≤ 30) }
-    ensures { result ≡ stores_test t n r.now }
+fn stores_test(t: Verdicts, n: u32, r: &[u8; 40]) -> bool
+    requires { n ≤ 30 }
+    ensures { result ≡ stores_test (tested (Ok t)) n r.now }
 {
-    (r[1] == test_mark(t)) & same(fields::field_at(r, 8), n as i32)
+    (r[1] == test_mark(t)) & (fields::field_at(r, 8) == n as i32)
 }
 
-pub fn calibration_refusal(st: State, r: &[u8]) -> u32
-    requires { (length r.now ≡ 40) × Sound 4000000000 st × SettingSound st.setting × ZRanged (z_of r.now) }
-    ensures { result ≡ calibration_refusal (facts_of st) r.now }
+pub fn calibration_refusal(st: State, r: &[u8; 40]) -> Result<(), Refusal>
+    requires { Sound 4000000000 st × SettingSound st.setting × ZRanged (z_of r.now) }
+    ensures { outcome_of result ≡ calibration_refusal (facts_of st) r.now }
 {
-    let c = calibration_result(st, fields::field_at(r, 8));
-    if c.refusal != 0 {
-        return c.refusal;
-    }
+    let c = calibration_result(st, fields::field_at(r, 8))?;
     if !stores_fit(c, r) {
-        return 25;
+        return Err(Refusal::Stored);
     }
-    0
+    Ok(())
 }
 
-pub fn annual_refusal(st: State, r: &[u8]) -> u32
-    requires { (length r.now ≡ 40) × Sound 4000000000 st × SettingSound st.setting }
-    ensures { result ≡ annual_refusal (facts_of st) r.now }
+pub fn annual_refusal(st: State, r: &[u8; 40]) -> Result<(), Refusal>
+    requires { Sound 4000000000 st × SettingSound st.setting }
+    ensures { outcome_of result ≡ annual_refusal (facts_of st) r.now }
 {
-    let t = annual_result(st);
-    if t.refusal != 0 {
-        return t.refusal;
-    }
+    let t = annual_result(st)?;
     if !stores_test(t, st.pending, r) {
-        return 25;
+        return Err(Refusal::Stored);
     }
-    0
+    Ok(())
 }

@@ -1,36 +1,17 @@
 // The figures of a record (paper 01, 'Records').
 ghost use Rattle.std.specs.Prelude.{◌≡◌, true, ◌+◌, ◌≤◌, length};
-ghost use Rattle.records.specs.Record.{conditions_at, difference_of, field, function_of, length_of, long_field, minute, pair_of, reading_ranged, requirements_of, setting_of, setting_ranged, signed32, signed64, waiting_of, waiting_ranged};
+ghost use Rattle.records.specs.Record.{conditions_at, difference_of, field, function_of, length_of, long_field, minute, pair_of, reading_ranged, requirements_of, setting_of, setting_ranged, waiting_of, waiting_ranged};
 
 use crate::bytes;
 use crate::state::{Function, Setting, Waiting};
 use calibration::{Actual, Conditions, Pair, Requirements, Standard};
-
-// A signed number from its bits.
-fn signed(n: u32) -> i32
-    ensures { result ≡ signed32 n }
-{
-    if n < 2147483648 {
-        return n as i32;
-    }
-    -1 - ((4294967295 - n) as i32)
-}
-
-fn signed_long(n: u64) -> i64
-    ensures { result ≡ signed64 n }
-{
-    if n < 9223372036854775808 {
-        return n as i64;
-    }
-    -1 - ((18446744073709551615 - n) as i64)
-}
 
 // A signed field of four bytes.
 pub fn field_at(r: &[u8], at: usize) -> i32
     requires { at + 4 ≤ length r.now }
     ensures { result ≡ field r.now at }
 {
-    signed(bytes::read32(r, at))
+    i32::from_le_bytes(bytes::chunk(r, at))
 }
 
 // A signed field of eight bytes.
@@ -38,9 +19,7 @@ pub fn long_field_at(r: &[u8], at: usize) -> i64
     requires { at + 8 ≤ length r.now }
     ensures { result ≡ long_field r.now at }
 {
-    let low = bytes::read32(r, at) as u64;
-    let high = bytes::read32(r, at + 4) as u64;
-    signed_long(low + 4294967296 * high)
+    i64::from_le_bytes(bytes::chunk(r, at))
 }
 
 pub fn conditions_at(r: &[u8], at: usize) -> Conditions
@@ -55,8 +34,7 @@ pub fn conditions_at(r: &[u8], at: usize) -> Conditions
     }
 }
 
-pub fn requirements_of(r: &[u8]) -> Requirements
-    requires { length r.now ≡ 40 }
+pub fn requirements_of(r: &[u8; 40]) -> Requirements
     ensures { result ≡ requirements_of r.now }
 {
     Requirements {
@@ -66,8 +44,8 @@ pub fn requirements_of(r: &[u8]) -> Requirements
     }
 }
 
-pub fn setting_of(r: &[u8]) -> Setting
-    requires { (length r.now ≡ 40) × (setting_ranged r.now ≡ true) }
+pub fn setting_of(r: &[u8; 40]) -> Setting
+    requires { setting_ranged r.now ≡ true }
     ensures { result ≡ setting_of r.now }
 {
     Setting {
@@ -79,15 +57,14 @@ pub fn setting_of(r: &[u8]) -> Setting
 }
 
 // A reading's difference.
-pub fn difference_of(r: &[u8]) -> i32
-    requires { (length r.now ≡ 40) × (reading_ranged r.now ≡ true) }
+pub fn difference_of(r: &[u8; 40]) -> i32
+    requires { reading_ranged r.now ≡ true }
     ensures { result ≡ difference_of r.now }
 {
     charts::difference(field_at(r, 8), field_at(r, 12))
 }
 
-pub fn pair_of(r: &[u8]) -> Pair
-    requires { length r.now ≡ 40 }
+pub fn pair_of(r: &[u8; 40]) -> Pair
     ensures { result ≡ pair_of r.now }
 {
     Pair {
@@ -98,15 +75,15 @@ pub fn pair_of(r: &[u8]) -> Pair
 }
 
 // A pair's length in minutes.
-pub fn length_of(r: &[u8]) -> u32
-    requires { (length r.now ≡ 40) × (waiting_ranged r.now ≡ true) }
+pub fn length_of(r: &[u8; 40]) -> u32
+    requires { waiting_ranged r.now ≡ true }
     ensures { (result ≡ length_of r.now) × (result ≤ 1440) }
 {
     field_at(r, 8) as u32
 }
 
-pub fn waiting_of(r: &[u8]) -> Waiting
-    requires { (length r.now ≡ 40) × (waiting_ranged r.now ≡ true) × (length_of r.now ≤ minute r.now) }
+pub fn waiting_of(r: &[u8; 40]) -> Waiting
+    requires { (waiting_ranged r.now ≡ true) × (length_of r.now ≤ minute r.now) }
     ensures { result ≡ waiting_of r.now }
 {
     let end = bytes::read32(r, 4);
@@ -118,8 +95,7 @@ pub fn waiting_of(r: &[u8]) -> Waiting
 }
 
 // The stored figures of a calibration closing, with its minute.
-pub fn function_of(r: &[u8]) -> Function
-    requires { length r.now ≡ 40 }
+pub fn function_of(r: &[u8; 40]) -> Function
     ensures { result ≡ function_of r.now }
 {
     Function {

@@ -1,19 +1,18 @@
 // Kind, mark and stray bytes of a record.
-ghost use Rattle.std.specs.Prelude.{◌≡◌, ◌&&◌, ◌≤◌, leb, length};
+ghost use Rattle.std.specs.Prelude.{◌≡◌, ◌&&◌, ◌≤◌, leb};
 ghost use Rattle.records.specs.Record.{formed_of, plain_of};
 
 use crate::bytes;
 
 // A mark of at most `marks`, bytes 2 and 3 zero, and every byte from `end` on.
-fn plain(r: &[u8], marks: u8, end: usize) -> bool
-    requires { (length r.now ≡ 40) × (end ≤ 40) }
+fn plain(r: &[u8; 40], marks: u8, end: usize) -> bool
+    requires { end ≤ 40 }
     ensures { result ≡ plain_of marks end r.now }
 {
     (r[1] <= marks) & (r[2] == 0) & ((r[3] == 0) & bytes::all_zero(r, end, 40))
 }
 
-pub fn formed(r: &[u8]) -> bool
-    requires { length r.now ≡ 40 }
+pub fn formed(r: &[u8; 40]) -> bool
     ensures { result ≡ formed_of r.now }
 {
     let kind = r[0];

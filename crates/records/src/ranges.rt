@@ -1,11 +1,10 @@
 // The ranges of a record's fields.
-ghost use Rattle.std.specs.Prelude.{◌≡◌, length};
+ghost use Rattle.std.specs.Prelude.{◌≡◌};
 ghost use Rattle.records.specs.Record.{ranged_of, reading_ranged, setting_ranged, value_ranged, waiting_ranged};
 
 use crate::fields;
 
-fn setting_ranged(r: &[u8]) -> bool
-    requires { length r.now ≡ 40 }
+fn setting_ranged(r: &[u8; 40]) -> bool
     ensures { result ≡ setting_ranged r.now }
 {
     calibration::requirements_ranged(fields::requirements_of(r))
@@ -14,16 +13,14 @@ fn setting_ranged(r: &[u8]) -> bool
                 & calibration::between(0, 60, fields::field_at(r, 28) as i64)))
 }
 
-fn reading_ranged(r: &[u8]) -> bool
-    requires { length r.now ≡ 40 }
+fn reading_ranged(r: &[u8; 40]) -> bool
     ensures { result ≡ reading_ranged r.now }
 {
     calibration::between(-400000, 400000, fields::field_at(r, 8) as i64)
         & calibration::between(0, 400000, fields::field_at(r, 12) as i64)
 }
 
-fn waiting_ranged(r: &[u8]) -> bool
-    requires { length r.now ≡ 40 }
+fn waiting_ranged(r: &[u8; 40]) -> bool
     ensures { result ≡ waiting_ranged r.now }
 {
     calibration::between(30, 1440, fields::field_at(r, 8) as i64)
@@ -31,8 +28,7 @@ fn waiting_ranged(r: &[u8]) -> bool
             & calibration::pair_ranged(fields::pair_of(r)))
 }
 
-fn value_ranged(r: &[u8]) -> bool
-    requires { length r.now ≡ 40 }
+fn value_ranged(r: &[u8; 40]) -> bool
     ensures { result ≡ value_ranged r.now }
 {
     calibration::between(0, 400000, fields::field_at(r, 8) as i64)
@@ -40,8 +36,7 @@ fn value_ranged(r: &[u8]) -> bool
 }
 
 // Every field that has a range is in it; of a closing that is Z alone.
-pub fn ranged(r: &[u8]) -> bool
-    requires { length r.now ≡ 40 }
+pub fn ranged(r: &[u8; 40]) -> bool
     ensures { result ≡ ranged_of r.now }
 {
     let kind = r[0];

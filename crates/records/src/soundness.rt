@@ -1,9 +1,8 @@
 // Whether a state is in the range in which its arithmetic fits.
-ghost use Rattle.std.specs.Prelude.{◌≡◌, ◌≤◌, length, take};
+ghost use Rattle.std.specs.Prelude.{◌≡◌};
 ghost use Rattle.records.specs.Soundness.{all_sound_of, begun_sound_of, calibration_sound_of, setting_sound_of, sound_of, waiting_sound_of};
 
-use crate::state::{Calibration, Setting, State, Waiting};
-use calibration::Line;
+use crate::state::{Function, Setting, State, Waiting};
 
 fn setting_sound(s: Setting) -> bool
     ensures { result ≡ setting_sound_of s }
@@ -29,30 +28,18 @@ fn waiting_sound(w: Waiting) -> bool
     ((w.start <= 100000000) & (w.end <= 100000000)) & calibration::pair_ranged(p)
 }
 
-fn pairs_sound(pairs: [Waiting; 30], n: u32) -> bool
-    requires { n ≤ 30 }
-    ensures { result ≡ all_sound_of (take n pairs) }
+fn pairs_sound(pairs: &[Waiting]) -> bool
+    ensures { result ≡ all_sound_of pairs.now }
 {
-    let mut i: u32 = 0;
-    while i < n {
-        let w = pairs[i as usize];
-        if !waiting_sound(w) {
-            return false;
-        }
-        i += 1;
-    }
-    true
+    pairs.iter().all(|w| waiting_sound(*w))
 }
 
-fn calibration_sound(k: Calibration) -> bool
+fn calibration_sound(k: Option<Function>) -> bool
     ensures { result ≡ calibration_sound_of k }
 {
     match k {
-        Calibration::Absent => true,
-        Calibration::InForce(f) => calibration::line_ranged(Line {
-            slope: f.slope,
-            intercept: f.intercept,
-        }),
+        None => true,
+        Some(f) => calibration::line_ranged(f.line()),
     }
 }
 
@@ -63,12 +50,9 @@ pub fn sound(most: u32, st: State) -> bool
     if 30 < st.pending {
         return false;
     }
-    let s = st.setting;
-    let zero = st.zero;
-    let span = st.span;
-    let pairs = st.pairs;
-    let k = st.calibration;
-    ((((st.minute <= 100000000) & begun_sound(st.begun, s)) & (zero.sound() & span.sound()))
-        & (((st.pending <= 30) & pairs_sound(pairs, st.pending)) & calibration_sound(k)))
+    ((((st.minute <= 100000000) & begun_sound(st.begun, st.setting))
+        & (st.zero.sound() & st.span.sound()))
+        & (((st.pending <= 30) & pairs_sound(&st.pairs[..st.pending as usize]))
+            & calibration_sound(st.calibration)))
         & (((st.total <= most) & (st.outside <= most)) & (st.over <= most))
 }

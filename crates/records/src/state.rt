@@ -1,4 +1,7 @@
 // The state (paper 01: the standing).
+ghost use Rattle.std.specs.Prelude.{◌≡◌};
+ghost use Rattle.records.specs.Kinds.{line_of};
+
 use calibration::{Line, Pair, Requirements, Standard};
 use charts::Chart;
 
@@ -28,22 +31,21 @@ pub struct Function {
     pub minute: u32,
 }
 
-// The calibration in force.
-#[derive(Clone, Copy)]
-pub enum Calibration {
-    Absent,
-    InForce(Function),
-}
-
-// The first call for a new calibration since the last passed one, with its minute.
-#[derive(Clone, Copy)]
-pub enum Demand {
-    Quiet,
-    Since(u32),
+impl Function {
+    // The line that a fit gives, without the rest.
+    pub fn line(self) -> Line
+        ensures { result ≡ line_of self }
+    {
+        Line {
+            slope: self.slope,
+            intercept: self.intercept,
+        }
+    }
 }
 
 // The standing: an analyser, the block number that it expects, a summary of the accepted records, and the edition of the block that is open,
-// or between blocks that of the last one taken or formed: 0 before the first.
+// or between blocks that of the last one taken or formed: 0 before the first. `calibration` is the function in force, and `demand` the minute of the first
+// call for a new one since it.
 #[derive(Clone, Copy)]
 pub struct State {
     pub analyser: u32,
@@ -55,17 +57,10 @@ pub struct State {
     pub span: Chart,
     pub pending: u32,
     pub pairs: [Waiting; 30],
-    pub calibration: Calibration,
+    pub calibration: Option<Function>,
     pub total: u32,
     pub outside: u32,
     pub over: u32,
-    pub demand: Demand,
+    pub demand: Option<u32>,
     pub edition: u8,
-}
-
-// What becomes of a state and a record: the refusal (0 for none), and the state after it.
-#[derive(Clone, Copy)]
-pub struct Stepped {
-    pub refusal: u32,
-    pub state: State,
 }

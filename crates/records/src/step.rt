@@ -1,17 +1,19 @@
 // One record: refused, or applied to the state.
-ghost use Rattle.std.specs.Prelude.{◌≡◌, true, false, length};
+ghost use Rattle.std.specs.Prelude.{◌≡◌, true, false};
+ghost use Rattle.refusals.specs.Rows.{outcome_of};
 ghost use Rattle.records.specs.Record.{ranged_of};
 ghost use Rattle.records.specs.Soundness.{Sound};
 ghost use Rattle.records.specs.Table.{kind_refusal, misplaced, refusal_in};
-ghost use Rattle.records.specs.State.{facts_of, step_of};
+ghost use Rattle.records.specs.State.{facts_of, step_of, stepped};
 
-use crate::state::{State, Stepped};
+use crate::state::State;
 use crate::{apply, checks, closing, layout, ranges};
+use refusals::Refusal;
 
 // The rows of a record's own kind.
-fn kind_refusal(st: State, r: &[u8]) -> u32
-    requires { (length r.now ≡ 40) × Sound 4000000000 st × (misplaced (facts_of st) r.now ≡ false) × (ranged_of r.now ≡ true) }
-    ensures { result ≡ kind_refusal (facts_of st) r.now }
+fn kind_refusal(st: State, r: &[u8; 40]) -> Result<(), Refusal>
+    requires { Sound 4000000000 st × (misplaced (facts_of st) r.now ≡ false) × (ranged_of r.now ≡ true) }
+    ensures { outcome_of result ≡ kind_refusal (facts_of st) r.now }
 {
     let kind = r[0];
     match kind {
@@ -20,46 +22,37 @@ fn kind_refusal(st: State, r: &[u8]) -> u32
         5 => closing::calibration_refusal(st, r),
         6 => closing::annual_refusal(st, r),
         7 => checks::value_refusal(st),
-        0..=1 => 0,
-        3 => 0,
-        8..=255 => 0,
+        0..=1 => Ok(()),
+        3 => Ok(()),
+        8..=255 => Ok(()),
     }
 }
 
-// The table's rows from 10 on, downwards: the first that fits, 0 where none does.
-pub fn refusal(st: State, r: &[u8]) -> u32
-    requires { (length r.now ≡ 40) × Sound 4000000000 st }
-    ensures { result ≡ refusal_in (facts_of st) r.now }
+// The table's rows from 10 on, downwards: the first that fits.
+pub fn refusal(st: State, r: &[u8; 40]) -> Result<(), Refusal>
+    requires { Sound 4000000000 st }
+    ensures { outcome_of result ≡ refusal_in (facts_of st) r.now }
 {
     if !layout::formed(r) {
-        return 10;
+        return Err(Refusal::Layout);
     }
     if checks::misplaced(st, r) {
-        return 11;
+        return Err(Refusal::Place);
     }
     if checks::untimely(st, r) {
-        return 12;
+        return Err(Refusal::Minute);
     }
     if !ranges::ranged(r) {
-        return 13;
+        return Err(Refusal::Range);
     }
     kind_refusal(st, r)
 }
 
-// A record in a state: the refusal and the state as it was, or the state after it.
-pub fn step(st: State, r: &[u8]) -> Stepped
-    requires { (length r.now ≡ 40) × Sound 4000000000 st }
-    ensures { result ≡ step_of st r.now }
+// A record in a state: refused, or the state after it.
+pub fn step(st: State, r: &[u8; 40]) -> Result<State, Refusal>
+    requires { Sound 4000000000 st }
+    ensures { stepped st result ≡ step_of st r.now }
 {
-    let n = refusal(st, r);
-    if n != 0 {
-        return Stepped {
-            refusal: n,
-            state: st,
-        };
-    }
-    Stepped {
-        refusal: 0,
-        state: apply::apply(st, r),
-    }
+    refusal(st, r)?;
+    Ok(apply::apply(st, r))
 }

@@ -1,155 +1,151 @@
 -- `calibration::fit_from` meets its contract.
-use mathlib.Core.Path.{◌≡◌, sym, ap, subst, ◌∙◌}
-use mathlib.Core.Bool.{Bool, true}
-use mathlib.Core.List.{List}
-use native.Mathlib.Omega.{arith}
-use lib.Dec.{T, lit<}
-use lib.IntN.{ℤ, pos, nat_abs}
-use lib.ListN.{take}
-use lib.Signed.{◌≤ℤ◌, ◌<ℤ◌}
-use mir.Syntax.{w32, w64}
+use Rattle.std.proofs.Common.{◌≡◌, sym, ap, subst, ◌∙◌, T, true, arith, to_z-of_z, SFits, w32, w64, Some, List}
+use Rattle.std.specs.Prelude.{Bool, ℤ, pos, nat_abs, ◌≤ℤ◌, ◌<ℤ◌, Option}
+use lib.Dec.{lit<}
 use mir.Val.{to_z, of_z}
-use mir.Facts.{to_z-of_z}
-use Rattle.charts.specs.SignedLocals.{Loc, arg, lit, le_true, le_false, eq_true, eq_false}
+use Rattle.charts.specs.SignedLocals.{Loc, arg, lit, le_true, le_false}
 use Rattle.calibration.specs.Pairs.{Between, between_answers}
-use Rattle.calibration.specs.Calibration.{flat_of, rise_of, divisor_of, intercept_of, slope_ranged_of, line_fits, LineRanged}
+use Rattle.calibration.specs.PairLaws.{between_fits}
+use Rattle.calibration.specs.Calibration.{flat_of, rise_of, divisor_of, intercept_of, slope_ranged_of, line_fits}
 use Rattle.calibration.specs.CodeLaws.{slope_code, slope_refused, slope_taken}
 use Rattle.calibration.proofs.FitLaws.{rise_bound, divisor_bound, line_ranged}
 use Rattle.calibration.proofs.VerdictLaws.{divisor_by, slope_by, no_divisor, no_slope, a_line}
-use Rattle.calibration.specs.declared.Line.{Line}
+use Rattle.calibration.specs.declared.Basis.{Basis}
 use Rattle.calibration.specs.declared.Pair.{Pair}
+use Rattle.calibration.specs.declared.Sums.{Sums}
 use Rattle.calibration.proofs.fit_from.Goals as goal
-use Rattle.calibration.proofs.fit_from.Goals.{After-divisor-d, After-intercept-a, After-rise, After-slope-b, Else-b-eq0, Else-d-le0, Start}
 
 abbrev Zero : Loc w64
 Zero = lit 0 (lit< tt)
 
-abbrev Zero₃₂ : Loc w32
-Zero₃₂ = lit 0 (lit< tt)
-
-module _ (c : Start) where
-  abbrev ps : List Pair
-  ps = take c.args.n c.args.pairs
-
+-- what the code works out is what the definition does
+module _ (b : Basis) (z : ℤ) (ps : List Pair) (u : Sums) (F : SFits w32 z) where
   abbrev flat : Bool
-  flat = flat_of c.args.edition c.args.q ps
+  flat = flat_of b.edition b.requirements ps
 
-  -- what B is made of, and B itself
   abbrev rise : ℤ
-  rise = rise_of flat c.args.u
+  rise = rise_of flat u
 
   abbrev divisor : ℤ
-  divisor = divisor_by c.args.edition c.args.q c.args.z ps c.args.u
+  divisor = divisor_by b.edition b.requirements z ps u
 
   abbrev slope : ℤ
-  slope = slope_by c.args.edition c.args.q c.args.z ps c.args.u
+  slope = slope_by b.edition b.requirements z ps u
 
-  abbrev line : Line
-  line = record { slope = slope; intercept = intercept_of c.args.edition flat c.args.u c.args.z slope }
+  back : to_z w32 (of_z w32 z) ≡ z
+  back = to_z-of_z {w = w32} F
 
-  z-back : to_z w32 (of_z w32 c.args.z) ≡ c.args.z
-  z-back = to_z-of_z {w = w32} c.ranges.z
+  divisor-is : {f : Bool} {d : ℤ} → f ≡ flat → d ≡ divisor_of f u (to_z w32 (of_z w32 z)) → d ≡ divisor
+  divisor-is E D = D ∙ ap (λ (f : Bool). divisor_of f u (to_z w32 (of_z w32 z))) E ∙ ap (divisor_of flat u) back
 
--- ---- the divisor
-abbrev D : After-divisor-d → Loc w64
-D c = arg c.divisor-d.result (record { sfits = c.divisor-d.type_inv })
+  rise-is : {f : Bool} {r : ℤ} → f ≡ flat → r ≡ rise_of f u → r ≡ rise
+  rise-is E R = R ∙ ap (λ (f : Bool). rise_of f u) E
 
-divisor-is : (c : After-divisor-d) → c.divisor-d.result ≡ divisor c.before.before
-divisor-is c =
-    let s = c.before.before in
-    c.divisor-d.ensures
-    ∙ ap (λ (f : Bool). divisor_of f s.args.u (to_z w32 (of_z w32 s.args.z))) c.before.is_flat-flat.ensures
-    ∙ ap (divisor_of (flat s) s.args.u) (z-back s)
+  intercept-is : (m : ℤ) {f : Bool} {a : ℤ} → f ≡ flat → to_z w32 (of_z w32 m) ≡ slope → a ≡ intercept_of b.edition f u (to_z w32 (of_z w32 z)) (to_z w32 (of_z w32 m)) → a ≡ intercept_of b.edition flat u z slope
+  intercept-is m E M A =
+      A
+      ∙ ap (λ (f : Bool). intercept_of b.edition f u (to_z w32 (of_z w32 z)) (to_z w32 (of_z w32 m))) E
+      ∙ ap (λ (z : ℤ). intercept_of b.edition flat u z (to_z w32 (of_z w32 m))) back
+      ∙ ap (intercept_of b.edition flat u z) M
 
-above : (c : Else-d-le0) → pos 0 <ℤ divisor c.before.before.before
-above c = subst (λ (d : ℤ). pos 0 <ℤ d) (divisor-is c.before) (le_false (D c.before) Zero c.if-d-le0.false)
+  slope-is : {f : Bool} {s : Option ℤ} {r d : ℤ} → SFits w64 r → SFits w64 d → f ≡ flat → r ≡ rise_of f u → d ≡ divisor_of f u (to_z w32 (of_z w32 z))
+      → s ≡ slope_code b.edition (to_z w64 (of_z w64 r)) (to_z w64 (of_z w64 d)) → s ≡ slope_code b.edition rise divisor
+  slope-is {d = d} R D E r-is d-is S =
+      S
+      ∙ ap (λ (r : ℤ). slope_code b.edition r (to_z w64 (of_z w64 d))) (to_z-of_z {w = w64} R ∙ rise-is E r-is)
+      ∙ ap (slope_code b.edition rise) (to_z-of_z {w = w64} D ∙ divisor-is E d-is)
 
--- ---- the slope
-abbrev M : After-rise → Loc w64
-M c = arg c.rise.result (record { sfits = c.rise.type_inv })
+  -- a slope that stands is B, in its range
+  module _ {m : ℤ} (S : slope_code b.edition rise divisor ≡ Some m) where
+    kept : slope_ranged_of slope ≡ true
+    kept = (slope_taken b.edition rise divisor S).0
 
-abbrev B : After-slope-b → Loc w32
-B c = arg c.slope-b.result (record { sfits = c.slope-b.type_inv })
+    slope-ranged : Between (pos 1) (pos 1000000) slope
+    slope-ranged = (between_answers (pos 1) (pos 1000000) slope).sure (subst T (sym kept) tt)
 
-rise-is : (c : After-rise) → c.rise.result ≡ rise c.before.before.before.before
-rise-is c = c.rise.ensures ∙ ap (λ (f : Bool). rise_of f c.before.before.before.before.args.u) c.before.before.before.is_flat-flat.ensures
+    slope-kept : to_z w32 (of_z w32 m) ≡ slope
+    slope-kept = let e = (slope_taken b.edition rise divisor S).1 in rw e (to_z-of_z {w = w32} (between_fits tt slope-ranged))
 
-slope-is : (c : After-slope-b) → let s = c.before.before.before.before.before in c.slope-b.result ≡ slope_code s.args.edition (rise s) (divisor s)
-slope-is c =
-    let m = c.before in
-    let d = m.before.before in
-    let e = d.before.before.args.edition in
-    c.slope-b.ensures
-    ∙ ap (λ (r : ℤ). slope_code e r (to_z w64 (D d).bits)) ((M m).reads ∙ rise-is m)
-    ∙ ap (slope_code e (rise d.before.before)) ((D d).reads ∙ divisor-is d)
-
--- B is in its range
-module _ (c : Else-b-eq0) where
-  abbrev s₂ : Start
-  s₂ = c.before.before.before.before.before.before
-
-  kept : (slope_ranged_of (slope s₂) ≡ true) × (slope_code s₂.args.edition (rise s₂) (divisor s₂) ≡ slope s₂)
-  kept = slope_taken s₂.args.edition (rise s₂) (divisor s₂) (λ e. eq_false w32 c.if-b-eq0.false (slope-is c.before ∙ e))
-
-  slope-kept : to_z w32 (B c.before).bits ≡ slope s₂
-  slope-kept = (B c.before).reads ∙ slope-is c.before ∙ kept.1
-
-  slope-ranged : Between (pos 1) (pos 1000000) (slope s₂)
-  slope-ranged = (between_answers (pos 1) (pos 1000000) (slope s₂)).sure (subst T (sym kept.0) tt)
-
--- ---- the function
-intercept-is : (c : After-intercept-a) → let s = s₂ c.before in c.intercept-a.result ≡ intercept_of s.args.edition (flat s) s.args.u s.args.z (slope s)
-intercept-is c =
-    let b = c.before.before in
-    let s = s₂ c.before in
-    c.intercept-a.ensures
-    ∙ ap (λ (f : Bool). intercept_of s.args.edition f s.args.u (to_z w32 (of_z w32 s.args.z)) (to_z w32 (B b).bits)) b.before.before.before.before.is_flat-flat.ensures
-    ∙ ap (λ (z : ℤ). intercept_of s.args.edition (flat s) s.args.u z (to_z w32 (B b).bits)) (z-back s)
-    ∙ ap (intercept_of s.args.edition (flat s) s.args.u s.args.z) (slope-kept c.before)
-
-line-is : (c : After-intercept-a) → record { slope = to_z w32 (B c.before.before).bits; intercept = to_z w64 (of_z w64 c.intercept-a.result) } ≡ line (s₂ c.before)
-line-is c =
-    let a = c.intercept-a.result in
-    ap (λ (b : ℤ). record { slope = b; intercept = to_z w64 (of_z w64 a) }) (slope-kept c.before)
-    ∙ ap (λ (v : ℤ). record { slope = slope (s₂ c.before); intercept = v }) (to_z-of_z {w = w64} (record { sfits = c.intercept-a.type_inv }) ∙ intercept-is c)
+-- a number of the code's as a local
+abbrev D : (d : ℤ) → SFits w64 d → Loc w64
+D d f = arg d f
 
 pub returns-then-d-le0 : goal.returns-then-d-le0
 returns-then-d-le0 c =
-    let d = c.before.before in
-    let s = d.before.before in
-    c.refused_fit.ensures
-    ∙ sym (no_divisor s.args.edition s.args.q s.args.z (ps s) s.args.u (subst (λ (x : ℤ). x ≤ℤ pos 0) (divisor-is d) (le_true (D d) Zero c.before.if-d-le0.true)))
+    let b = c.args.b in
+    let e = divisor-is b c.args.z c.args.pairs.now c.args.u c.ranges.z c.is_flat-flat.ensures c.divisor-d.ensures in
+    let d = D c.divisor-d.result (record { sfits = c.divisor-d.type_inv }) in
+    sym (no_divisor b.edition b.requirements c.args.z c.args.pairs.now c.args.u (subst (λ (x : ℤ). x ≤ℤ pos 0) e (le_true d Zero c.if-d-le0.true)))
 
-pub slope-b-requires : goal.slope-b-requires
-slope-b-requires c =
-    let d = c.before.before in
-    let s = d.before.before in (
-      omega (arith, ap nat_abs ((M c).reads ∙ rise-is c), rise_bound s.requires.5 (flat s)),
-      subst (λ (x : ℤ). pos 0 <ℤ x) (sym ((D d).reads ∙ divisor-is d)) (above c.before),
-      omega (arith, ap nat_abs ((D d).reads ∙ divisor-is d), divisor_bound s.requires.5 s.requires.4 (flat s)),
+pub slope-requires : goal.slope-requires
+slope-requires c =
+    let b = c.args.b in
+    let e = divisor-is b c.args.z c.args.pairs.now c.args.u c.ranges.z c.is_flat-flat.ensures c.divisor-d.ensures in
+    let m = rise-is b c.args.z c.args.pairs.now c.args.u c.ranges.z c.is_flat-flat.ensures c.rise.ensures in
+    let d = D c.divisor-d.result (record { sfits = c.divisor-d.type_inv }) in
+    let r = D c.rise.result (record { sfits = c.rise.type_inv }) in
+    let f = flat_of b.edition b.requirements c.args.pairs.now in (
+      omega (arith, ap nat_abs (r.reads ∙ m), rise_bound c.requires.5 f),
+      subst (λ (x : ℤ). pos 0 <ℤ x) (sym d.reads) (le_false d Zero c.if-d-le0.false),
+      omega (arith, ap nat_abs (d.reads ∙ e), divisor_bound c.requires.5 c.requires.4 f),
     )
 
-pub returns-then-b-eq0 : goal.returns-then-b-eq0
-returns-then-b-eq0 c =
-    let b = c.before.before in
-    let s = b.before.before.before.before.before in
-    c.refused_fit-then-b-eq0.ensures
-    ∙ sym (no_slope s.args.edition s.args.q s.args.z (ps s) s.args.u (above b.before.before) (slope_refused s.args.edition (rise s) (divisor s) (sym (slope-is b) ∙ eq_true (B b) Zero₃₂ c.before.if-b-eq0.true)))
+pub returns-in_default : goal.returns-in_default
+returns-in_default c =
+    let b = c.args.b in
+    let z = c.args.z in
+    let ps = c.args.pairs.now in
+    let u = c.args.u in
+    let R : SFits w64 c.rise.result = record { sfits = c.rise.type_inv } in
+    let V : SFits w64 c.divisor-d.result = record { sfits = c.divisor-d.type_inv } in
+    let s = slope-is b z ps u c.ranges.z R V c.is_flat-flat.ensures c.rise.ensures c.divisor-d.ensures c.slope.ensures in
+    let e = divisor-is b z ps u c.ranges.z c.is_flat-flat.ensures c.divisor-d.ensures in
+    let above = subst (λ (x : ℤ). pos 0 <ℤ x) e (le_false (D c.divisor-d.result V) Zero c.if-d-le0.false) in
+    sym (no_slope b.edition b.requirements z ps u above (slope_refused b.edition (rise b z ps u c.ranges.z) (divisor b z ps u c.ranges.z) (sym s ∙ c.in_default.is)))
 
 pub intercept-a-requires : goal.intercept-a-requires
 intercept-a-requires c =
-    let s = s₂ c in
-    (s.requires.5, s.requires.6, rw (z-back s) s.requires.4, subst (Between (pos 1) (pos 1000000)) (sym (slope-kept c)) (slope-ranged c))
+    let b = c.args.b in
+    let z = c.args.z in
+    let ps = c.args.pairs.now in
+    let u = c.args.u in
+    let R : SFits w64 c.rise.result = record { sfits = c.rise.type_inv } in
+    let V : SFits w64 c.divisor-d.result = record { sfits = c.divisor-d.type_inv } in
+    let s = slope-is b z ps u c.ranges.z R V c.is_flat-flat.ensures c.rise.ensures c.divisor-d.ensures c.slope.ensures in
+    let S = sym s ∙ c.in-Some.is in
+    (c.requires.5, c.requires.6, rw (back b z ps u c.ranges.z) c.requires.4, rw (slope-kept b z ps u c.ranges.z S) (slope-ranged b z ps u c.ranges.z S))
 
 pub line_fits-requires : goal.line_fits-requires
 line_fits-requires c =
-    let s = s₂ c.before in
-    (s.requires.0, s.requires.1, s.requires.2, s.requires.3, subst LineRanged (sym (line-is c)) (line_ranged s.args.edition s.requires.5 s.requires.6 s.requires.4 (slope-ranged c.before) (flat s)))
+    let b = c.args.b in
+    let z = c.args.z in
+    let ps = c.args.pairs.now in
+    let u = c.args.u in
+    let R : SFits w64 c.rise.result = record { sfits = c.rise.type_inv } in
+    let V : SFits w64 c.divisor-d.result = record { sfits = c.divisor-d.type_inv } in
+    let I : SFits w64 c.intercept-a.result = record { sfits = c.intercept-a.type_inv } in
+    let s = slope-is b z ps u c.ranges.z R V c.is_flat-flat.ensures c.rise.ensures c.divisor-d.ensures c.slope.ensures in
+    let S = sym s ∙ c.in-Some.is in
+    let k = slope-kept b z ps u c.ranges.z S in
+    let a = intercept-is b z ps u c.ranges.z c.in-Some.m c.is_flat-flat.ensures k c.intercept-a.ensures in
+    (c.requires.0, c.requires.1, c.requires.2, c.requires.3, rw (k, to_z-of_z {w = w64} I, a) (line_ranged b.edition c.requires.5 c.requires.6 c.requires.4 (slope-ranged b z ps u c.ranges.z S) (flat b z ps u c.ranges.z)))
 
 pub returns : goal.returns
 returns c =
-    let e = c.before.before in
-    let s = s₂ e in
+    let b = c.args.b in
+    let z = c.args.z in
+    let ps = c.args.pairs.now in
+    let u = c.args.u in
+    let R : SFits w64 c.rise.result = record { sfits = c.rise.type_inv } in
+    let V : SFits w64 c.divisor-d.result = record { sfits = c.divisor-d.type_inv } in
+    let I : SFits w64 c.intercept-a.result = record { sfits = c.intercept-a.type_inv } in
+    let s = slope-is b z ps u c.ranges.z R V c.is_flat-flat.ensures c.rise.ensures c.divisor-d.ensures c.slope.ensures in
+    let S = sym s ∙ c.in-Some.is in
+    let k = slope-kept b z ps u c.ranges.z S in
+    let a = intercept-is b z ps u c.ranges.z c.in-Some.m c.is_flat-flat.ensures k c.intercept-a.ensures in
+    let e = divisor-is b z ps u c.ranges.z c.is_flat-flat.ensures c.divisor-d.ensures in
+    let above = subst (λ (x : ℤ). pos 0 <ℤ x) e (le_false (D c.divisor-d.result V) Zero c.if-d-le0.false) in
     c.line_fits.ensures
-    ∙ ap (line_fits s.args.edition s.args.q (ps s)) (line-is c.before)
-    ∙ sym (a_line s.args.edition s.args.q s.args.z (ps s) s.args.u (above e.before.before.before) (kept e).0)
+    ∙ ap (λ (m : ℤ). line_fits b.edition b.requirements ps (record { slope = m; intercept = to_z w64 (of_z w64 c.intercept-a.result) })) k
+    ∙ ap (λ (v : ℤ). line_fits b.edition b.requirements ps (record { slope = slope b z ps u c.ranges.z; intercept = v })) (to_z-of_z {w = w64} I ∙ a)
+    ∙ sym (a_line b.edition b.requirements z ps u above (kept b z ps u c.ranges.z S))

@@ -1,125 +1,77 @@
--- `calibration::is_flat` meets its contract. The loop's invariant: `s` with the values left makes the whole span, and its ends are in range.
-use borrow.Author.Rules.{rules}
-use mathlib.Core.Path.{◌≡◌, ap, ◌∙◌}
-use mathlib.Core.List.{map}
-use Prim.Native.Nat.{ℕ, ◌≤◌, ◌<◌}
-use native.Mathlib.Omega.{arith}
+-- `calibration::is_flat` meets its contract.
+use Rattle.std.proofs.Common.{◌≡◌, ap, ◌∙◌, ◌≤◌, ◌<◌, ℕ, List, map, length, drop, get_or, drop_of_length-le, arith, SFits}
 use lib.Dec.{lit<}
-use lib.IntN.{ℤ, pos, nat_abs, ◌-ℤ◌, ◌*ℤ◌}
-use lib.ListN.{length, take, get_or}
+use lib.IntN.{pos, nat_abs, ◌-ℤ◌, ◌*ℤ◌}
 use lib.Signed.{lt_z}
 use mir.Syntax.{w32, w64}
-use mir.Val.{SFits, to_z, of_z}
 use Rattle.charts.specs.Integers.{abs_diff, abs_sfits}
-use Rattle.charts.specs.SignedLocals.{Loc, lit, sub, sub_need, mul, mul_need, lt_flag}
-use Rattle.calibration.specs.Pairs.{PairRanged, OxygenRanged}
-use Rattle.calibration.specs.PairLaws.{between_abs, between_fits, wide, wide_need, oxygen_reads}
+use Rattle.charts.specs.SignedLocals.{Loc, lit, sub, mul, lt_flag}
+use Rattle.calibration.specs.PairLaws.{between_abs, between_fits, wide}
+use Rattle.calibration.specs.Pairs.{AllRanged, RequirementsRanged}
 use Rattle.calibration.specs.Calibration.{measured_of, span_of, flat_of}
+use Rattle.calibration.specs.ListLaws.{next_pair, ranged_at, unset}
+use Rattle.calibration.specs.SpanLaws.{Spanned, widened_spanned, span_begun}
 use Rattle.calibration.proofs.ConditionLaws.{measured_bound}
 use Rattle.calibration.proofs.FitLaws.{product_size}
-use Rattle.calibration.specs.ListLaws.{next, passed, unset, pair_ranged}
-use Rattle.calibration.specs.SpanLaws.{Spanned, widened_spanned}
+use Rattle.calibration.specs.declared.Basis.{Basis}
 use Rattle.calibration.specs.declared.Pair.{Pair}
 use Rattle.calibration.specs.declared.Span.{Span}
-use Rattle.calibration.specs.declared.Standard.{Standard}
 use Rattle.calibration.proofs.is_flat.Goals as goal
-use Rattle.calibration.proofs.is_flat.Lts as lts
-use Rattle.calibration.proofs.is_flat.Tie as tie
-use Rattle.calibration.proofs.is_flat.Reads as reads
-use Rattle.calibration.proofs.is_flat.Goals.{Start}
 
-abbrev At-After-loop-i : Type 0
-At-After-loop-i = lts.After-loop tie.the-claims reads.Pre reads.Post goal.the-invariant-loop-i goal.the-decreases-loop-i
+-- y' of a pair of the list
+module _ (b : Basis) (ps : List Pair) (P : AllRanged ps) (Q : RequirementsRanged b.requirements) (i : ℕ) (h : i < length ps) where
+  sized : nat_abs (measured_of b.edition b.requirements.oxygen (get_or ps i unset)).0 ≤ 33600000
+  sized = measured_bound b.edition Q.oxygen (ranged_at ps i h P)
 
--- ---- the pairs and their y'
-module _ (c : Start) where
-  enough : c.args.n ≤ length c.args.pairs
-  enough = let e : length c.args.pairs ≡ 30 = search rules in omega (arith, c.requires.1)
-
-  abbrev pair : ℕ → Pair
-  pair i = get_or c.args.pairs i unset
-
-  ranged : (i : ℕ) → i < c.args.n → PairRanged (pair i)
-  ranged i h = pair_ranged c.args.pairs c.args.n enough c.requires.2 i h
-
-  oxygen : to_z w32 (of_z w32 c.args.q.oxygen) ≡ c.args.q.oxygen
-  oxygen = oxygen_reads c.requires.3
-
-  asks : (i : ℕ) → i < c.args.n → OxygenRanged (to_z w32 (of_z w32 c.args.q.oxygen)) × PairRanged (pair i)
-  asks i h = (rw oxygen c.requires.3.oxygen, ranged i h)
-
-  gives : {v : Standard} (i : ℕ) → v ≡ measured_of c.args.edition (to_z w32 (of_z w32 c.args.q.oxygen)) (pair i) → v ≡ measured_of c.args.edition c.args.q.oxygen (pair i)
-  gives i e = e ∙ ap (λ (o : ℤ). measured_of c.args.edition o (pair i)) oxygen
-
-  sized : (i : ℕ) → i < c.args.n → nat_abs (measured_of c.args.edition c.args.q.oxygen (pair i)).0 ≤ 33600000
-  sized i h = measured_bound c.args.edition c.requires.3.oxygen (ranged i h)
-
--- ---- the loop
-pub bounds-pairs-0 : goal.bounds-pairs-0
-bounds-pairs-0 c = search rules
-
-pub measured-first-requires : goal.measured-first-requires
-measured-first-requires c = let s = c.before.before.before in asks s 0 s.requires.0
-
-pub loop-i-init : goal.loop-i-init
-unfolding span_of
-loop-i-init c =
-    let s = c.before.before.before.before in
-    let e = gives s 0 c.measured-first.ensures in
-    let h = sized s 0 s.requires.0 in
-    (omega (arith, s.requires.0), rw e (record { low = h; high = h }), rw (e, next s.args.pairs s.args.n (enough s) 0 unset s.requires.0))
+pub loop-p-init : goal.loop-p-init
+loop-p-init c =
+    let ps = c.args.pairs.now in
+    let b = c.args.b in
+    let e = c.measured-first.ensures in
+    let h = sized b ps c.requires.1 c.requires.2 0 c.requires.0 in
+    record {
+      spanned = rw e (record { low = h; high = h });
+      whole = rw (e, next_pair ps 0 c.requires.0) (span_begun (measured_of b.edition b.requirements.oxygen (get_or ps 0 unset)) (map (measured_of b.edition b.requirements.oxygen) (drop 1 ps)));
+    }
 
 pub measured-requires : goal.measured-requires
-measured-requires c =
-    let t = c.before.before.before in
-    asks t.before.before.before.before.before t.before.loop-i.i t.loop-i-test.true
+measured-requires c = (c.requires.2, ranged_at c.args.pairs.now c.loop-p.p-index c.loop-p-test.true c.requires.1)
 
-pub loop-i-preserved : goal.loop-i-preserved
-loop-i-preserved c =
-    let t = c.before.before.before.before.before in
-    let l = t.before.loop-i in
-    let s = t.before.before.before.before.before in
-    let h = t.loop-i-test.true in
-    let e = gives s l.i c.measured.ensures in
-    let v = measured_of s.args.edition s.args.q.oxygen (pair s l.i) in
-    let left = rw (next s.args.pairs s.args.n (enough s) l.i unset h) at l.invariant.2 in
-    (omega arith, rw (c.widened-s.ensures, e) (widened_spanned v l.invariant.1 (sized s l.i h)), rw (c.widened-s.ensures, e) left)
+pub loop-p-preserved : goal.loop-p-preserved
+loop-p-preserved c =
+    let ps = c.args.pairs.now in
+    let b = c.args.b in
+    let i = c.loop-p.p-index in
+    let h = c.loop-p-test.true in
+    let v = measured_of b.edition b.requirements.oxygen (get_or ps i unset) in
+    let left = rw (next_pair ps i h) at c.loop-p.invariant.whole in
+    record {
+      spanned = rw (c.widened-s.ensures, c.measured.ensures) (widened_spanned v c.loop-p.invariant.spanned (sized b ps c.requires.1 c.requires.2 i h));
+      whole = rw (c.widened-s.ensures, c.measured.ensures) left;
+    }
 
 -- ---- the test
-whole : (c : At-After-loop-i) →
-    let a = c.before.before.before.before.before.args in
-    c.before.loop-i.s ≡ span_of (map (measured_of a.edition a.q.oxygen) (take a.n a.pairs))
-whole c =
-    let s = c.before.before.before.before.before in
-    rw (passed s.args.pairs s.args.n (enough s) c.before.loop-i.i c.loop-i-test.false) at c.before.loop-i.invariant.2
-
 abbrev K : Loc w64
 K = lit 100 (lit< tt)
 
 abbrev F : Loc w64
 F = lit 15 (lit< tt)
 
-module _ (c : At-After-loop-i) where
-  abbrev S : Span
-  S = c.before.loop-i.s
+module _ (s : Span) (S : Spanned 33600000 s) where
+  high_fits : SFits w32 s.high.0
+  high_fits = abs_sfits (omega (arith, S.high))
 
-  S-sized : Spanned 33600000 S
-  S-sized = c.before.loop-i.invariant.1
-
-  high_fits : SFits w32 S.high.0
-  high_fits = abs_sfits (omega (arith, S-sized.high))
-
-  low_fits : SFits w32 S.low.0
-  low_fits = abs_sfits (omega (arith, S-sized.low))
+  low_fits : SFits w32 s.low.0
+  low_fits = abs_sfits (omega (arith, S.low))
 
   abbrev H : Loc w64
-  H = wide S.high.0 high_fits
+  H = wide s.high.0 high_fits
 
   abbrev L : Loc w64
-  L = wide S.low.0 low_fits
+  L = wide s.low.0 low_fits
 
   d_small : nat_abs (H.num -ℤ L.num) ≤ 67200000
-  d_small = omega (arith, abs_diff H.num L.num, S-sized.high, S-sized.low)
+  d_small = omega (arith, abs_diff H.num L.num, S.high, S.low)
 
   abbrev D : Loc w64
   D = sub H L (abs_sfits (omega (arith, d_small)))
@@ -127,37 +79,18 @@ module _ (c : At-After-loop-i) where
   abbrev KD : Loc w64
   KD = mul K D (abs_sfits (omega (arith, product_size {m = 100} (pos 100) D.num (omega arith) d_small)))
 
-module _ (c : Start) where
+module _ (b : Basis) (Q : RequirementsRanged b.requirements) where
   abbrev E : Loc w64
-  E = wide c.args.q.limit (between_fits tt c.requires.3.limit)
+  E = wide b.requirements.limit (between_fits tt Q.limit)
 
   abbrev FE : Loc w64
-  FE = mul F E (abs_sfits (omega (arith, product_size {m = 15} (pos 15) E.num (omega arith) (between_abs c.requires.3.limit))))
-
-abbrev start : At-After-loop-i → Start
-start c = c.before.before.before.before.before
-
-pub overflow_cast-result : goal.overflow_cast-result
-overflow_cast-result c = wide_need (high_fits c.before.before.before)
-
-pub overflow_cast-result-2 : goal.overflow_cast-result-2
-overflow_cast-result-2 c = wide_need (low_fits c.before.before.before.before.before)
-
-pub overflow_sub-result : goal.overflow_sub-result
-overflow_sub-result c = let t = c.before.before.before.before.before in sub_need (H t) (L t) (D t).fit
-
-pub overflow_mul-result : goal.overflow_mul-result
-overflow_mul-result c = let t = c.before.before.before.before.before in mul_need K (D t) (KD t).fit
-
-pub overflow_cast-result-3 : goal.overflow_cast-result-3
-overflow_cast-result-3 c = let s = start c.before.before.before.before.before.before in wide_need (between_fits tt s.requires.3.limit)
-
-pub overflow_mul-result-2 : goal.overflow_mul-result-2
-overflow_mul-result-2 c = let s = start c.before.before.before.before.before.before in mul_need F (E s) (FE s).fit
+  FE = mul F E (abs_sfits (omega (arith, product_size {m = 15} (pos 15) E.num (omega arith) (between_abs Q.limit))))
 
 pub returns : goal.returns
 unfolding flat_of
 returns c =
-    let t = c.before.before.before.before.before.before in
-    let s = start t in
-    lt_flag (KD t) (FE s) ∙ ap (λ (v : Span). lt_z (pos 100 *ℤ (v.high.0 -ℤ v.low.0)) (pos 15 *ℤ s.args.q.limit)) (whole t)
+    let S = c.loop-p.invariant.spanned in
+    let ps = c.args.pairs.now in
+    let b = c.args.b in
+    let whole : c.loop-p.s ≡ span_of (map (measured_of b.edition b.requirements.oxygen) ps) = rw (drop_of_length-le ps {i = c.loop-p.p-index} c.loop-p-test.false) at c.loop-p.invariant.whole in
+    lt_flag (KD c.loop-p.s S) (FE b c.requires.2) ∙ ap (λ (v : Span). lt_z (pos 100 *ℤ (v.high.0 -ℤ v.low.0)) (pos 15 *ℤ b.requirements.limit)) whole

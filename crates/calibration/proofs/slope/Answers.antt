@@ -2,6 +2,7 @@
 use borrow.Author.Rules.{rules}
 use mathlib.Core.Path.{◌≡◌, sym, ap, subst, ◌∙◌}
 use mathlib.Core.Bool.{true}
+use Rattle.std.proofs.Common.{Some}
 use Prim.Native.Nat.{ℕ, ◌*◌, ◌≤◌, ◌<◌}
 use native.Mathlib.Omega.{arith}
 use lib.Dec.{T, lit<}
@@ -195,6 +196,5 @@ pub returns : goal.returns
 returns c =
     let b = c.before.before in
     let p = from b in
-    (Result c).reads
-    ∙ b-is b
+    ap (λ (z : ℤ). Some z) ((Result c).reads ∙ b-is b)
     ∙ sym (slope_in (e p) (rise p) (divisor p) (ap slope_ranged_of (sym (b-is b)) ∙ b-ranged c))

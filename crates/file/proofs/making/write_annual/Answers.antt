@@ -4,13 +4,8 @@ use Rattle.file.proofs.making.write_annual.Goals as goal
 
 pub returns : goal.returns
 returns c =
-    let w3 = c.before.before.before in
-    let w2 = w3.before.before.before.before in
-    let w1 = w2.before.before.before.before in
-    let m = w1.before in
-    let s = m.before.before.before in
-    let a = s.args in
-    annual_written a.target.now _ _ _ a.t m.test_mark.result a.count a.minute s.requires m.test_mark.ensures
-    w1.write_head.ensures
-    w2.write32.ensures
-    w3.clear.ensures
+    let a = c.args in
+    annual_written a.target.now _ _ _ _ c.test_mark.result a.count a.minute c.requires c.test_mark.ensures
+    c.write_head.ensures
+    c.write32.ensures
+    c.clear.ensures

@@ -13,141 +13,129 @@ use Rattle.records.proofs.SoundnessLaws.{setting_known}
 use Rattle.records.specs.declared.state.State.{State}
 use Rattle.records.proofs.ApplyLaws.{no_kind, judged_total, judged_outside, applied_setting, applied_reading, applied_reset, applied_pair, applied_calibration, applied_annual, applied_value, applied_drop}
 use Rattle.records.proofs.apply.apply.Goals as goal
-use Rattle.records.proofs.apply.apply.Lts as lts
-use Rattle.records.proofs.apply.apply.Tie as tie
-use Rattle.records.proofs.apply.apply.Reads as reads
-use Rattle.records.proofs.apply.apply.Goals.{Start}
-
-abbrev At-After-judged-s : Type 0
-At-After-judged-s = lts.After-judged tie.the-claims reads.Pre reads.Post
-
-abbrev state_of : At-After-judged-s → State
-state_of c = c.before.before.before.args.st
-
-abbrev recordOf : At-After-judged-s → Record
-recordOf c = c.before.before.before.args.r.now
+use Rattle.records.proofs.apply.apply.Goals.{Start, After-judged-s}
 
 -- the array has thirty places: what its type says stands among what is known of the fields, at the ninth
 places : (c : Start) → length c.args.st.pairs ≡ 30
 places c = c.well_formed.0.1.1.1.1.1.1.1.1.1.1.0.1.0.1
 
-passed : (c : At-After-judged-s) → Accepted (facts_of (state_of c)) (recordOf c)
-passed c = accepted (facts_of (state_of c)) (recordOf c) c.before.before.before.requires.2
+abbrev state_of : After-judged-s → State
+state_of c = c.args.st
 
-judged-is : (c : At-After-judged-s) → c.judged-s.result ≡ judged_of (state_of c) (minute (recordOf c))
+abbrev recordOf : After-judged-s → Record
+recordOf c = c.args.r.now
+
+passed : (c : After-judged-s) → Accepted (facts_of (state_of c)) (recordOf c)
+passed c = accepted (facts_of (state_of c)) (recordOf c) c.requires.1
+
+judged-is : (c : After-judged-s) → c.judged-s.result ≡ judged_of (state_of c) (minute (recordOf c))
 unfolding minute
-judged-is c = c.judged-s.ensures ∙ ap (judged_of (state_of c)) c.before.read32.ensures
+judged-is c = c.judged-s.ensures ∙ ap (judged_of (state_of c)) c.read32.ensures
 
-pair_fits : (j : At-After-judged-s) → kind (recordOf j) ≡ 4 → PairPasses (facts_of (state_of j)) (recordOf j)
+pair_fits : (j : After-judged-s) → kind (recordOf j) ≡ 4 → PairPasses (facts_of (state_of j)) (recordOf j)
 pair_fits j k = pair_passes (facts_of (state_of j)) (recordOf j) (pair_passed (facts_of (state_of j)) (recordOf j) (passed j) k)
 
-record-formed : (c : At-After-judged-s) → FormedFields (recordOf c)
+record-formed : (c : After-judged-s) → FormedFields (recordOf c)
 record-formed c = formed_fields (recordOf c) (passed c).formed
 
 pub setting_of-requires : goal.setting_of-requires
 unfolding kind
 setting_of-requires c =
-    let j = c.before.before.before in
-    (j.before.before.before.requires.0, setting_ranged_lem (recordOf j) (passed j).ranged c.in-1.is)
+    let j = (goal.at.setting_of-requires c).After-judged-s in
+    (setting_ranged_lem (recordOf j) (passed j).ranged c.in-1.is)
 
 pub with_reading-requires : goal.with_reading-requires
 unfolding kind judged_of facts_of reading_refusal
 with_reading-requires c =
-    let j = c.before.before.before in
-    let s = j.before.before.before in
+    let j = (goal.at.with_reading-requires c).After-judged-s in
     let A = passed j in
     rw (judged-is j)
-    (s.requires.0, reading_ranged_lem (recordOf j) A.ranged c.in-2.is, reading_passed (facts_of (state_of j)) (recordOf j) A c.in-2.is, s.requires.1.zero, s.requires.1.span)
+    (reading_ranged_lem (recordOf j) A.ranged c.in-2.is, reading_passed (facts_of (state_of j)) (recordOf j) A c.in-2.is, c.requires.0.zero, c.requires.0.span)
 
 pub waiting_of-requires : goal.waiting_of-requires
 unfolding kind
 waiting_of-requires c =
-    let j = c.before.before.before in
-    (j.before.before.before.requires.0, waiting_ranged_lem (recordOf j) (passed j).ranged c.in-4.is, (pair_fits j c.in-4.is).starts)
+    let j = (goal.at.waiting_of-requires c).After-judged-s in
+    (waiting_ranged_lem (recordOf j) (passed j).ranged c.in-4.is, (pair_fits j c.in-4.is).starts)
 
 pub with_pair-requires : goal.with_pair-requires
 unfolding judged_of facts_of kind
 with_pair-requires c =
-    let j = c.before.before.before.before in
-    rw (judged-is j) (omega (arith, (pair_fits j c.in-4.is).room, length-take (state_of j).pending (state_of j).pairs, places j.before.before.before))
+    let j = (goal.at.with_pair-requires c).After-judged-s in
+    rw (judged-is j) (omega (arith, (pair_fits j c.in-4.is).room, length-take (state_of j).pending (state_of j).pairs, places (goal.at.with_pair-requires c).Start))
 
 pub outside-requires : goal.outside-requires
 unfolding kind sets judged_of
 outside-requires c =
-    let m = c.before.before.before in
-    let j = m.before.before in
-    let s = j.before.before.before in
-    let k = m.in-7.is in
-    rw (judged-is j) (s.requires.1.calibration, setting_known (state_of j) (recordOf j) (passed j).placed (rw k tt) s.requires.1.setting, s.requires.0, value_ranged_lem (recordOf j) (passed j).ranged k)
+    let j = (goal.at.outside-requires c).After-judged-s in
+    let k = c.in-7.is in
+    rw (judged-is j) (c.requires.0.calibration, setting_known (state_of j) (recordOf j) (passed j).placed (rw k tt) c.requires.0.setting, value_ranged_lem (recordOf j) (passed j).ranged k)
 
 pub with_value-requires : goal.with_value-requires
 with_value-requires c =
-    let j = c.before.before.before.before.before.before in
-    let S = j.before.before.before.requires.1 in
+    let j = (goal.at.with_value-requires c).After-judged-s in
+    let S = c.requires.0 in
     rw (judged-is j) (omega (arith, judged_total (state_of j) (recordOf j), S.total), omega (arith, judged_outside (state_of j) (recordOf j), S.outside))
 
 pub returns-in-1 : goal.returns-in-1
 unfolding kind with_setting
 returns-in-1 c =
-    let k = c.before.before.before.before.before in
-    let j = k.before.before in
-    rw (judged-is j, c.setting_of.ensures) (applied_setting (state_of j) (recordOf j) k.in-1.is)
+    let j = (goal.at.returns-in-1 c).After-judged-s in
+    rw (judged-is j, c.setting_of.ensures) (applied_setting (state_of j) (recordOf j) c.in-1.is)
 
 pub returns-in-2 : goal.returns-in-2
 unfolding kind mark_limit
 returns-in-2 c =
-    let j = c.before.before.before.before in
+    let j = (goal.at.returns-in-2 c).After-judged-s in
     let k = c.in-2.is in
     c.with_reading.ensures ∙ ap (λ (s : State). with_reading s (recordOf j)) (judged-is j) ∙ applied_reading (state_of j) (recordOf j) k (rw k at (record-formed j).mark)
 
 pub returns-in-3 : goal.returns-in-3
 unfolding kind mark_limit
 returns-in-3 c =
-    let j = c.before.before.before.before in
+    let j = (goal.at.returns-in-3 c).After-judged-s in
     let k = c.in-3.is in
     c.with_reset.ensures ∙ ap (λ (s : State). with_reset s (recordOf j)) (judged-is j) ∙ applied_reset (state_of j) (recordOf j) k (rw k at (record-formed j).mark)
 
 pub returns-in-4 : goal.returns-in-4
 unfolding kind
 returns-in-4 c =
-    let j = c.before.before.before.before.before in
+    let j = (goal.at.returns-in-4 c).After-judged-s in
     c.with_pair.ensures ∙ rw (judged-is j, c.waiting_of.ensures) (applied_pair (state_of j) (recordOf j) c.in-4.is)
 
 pub returns-in-5 : goal.returns-in-5
 unfolding kind
 returns-in-5 c =
-    let j = c.before.before.before.before in
+    let j = (goal.at.returns-in-5 c).After-judged-s in
     let k = c.in-5.is in
     c.with_calibration.ensures ∙ ap (λ (s : State). with_calibration s (recordOf j)) (judged-is j) ∙ applied_calibration (state_of j) (recordOf j) k
 
 pub returns-in-6 : goal.returns-in-6
 unfolding kind
 returns-in-6 c =
-    let j = c.before.before.before.before in
+    let j = (goal.at.returns-in-6 c).After-judged-s in
     let k = c.in-6.is in
     c.with_annual.ensures ∙ ap (λ (s : State). with_annual s (recordOf j)) (judged-is j) ∙ applied_annual (state_of j) (recordOf j) k
 
 pub returns-in-7 : goal.returns-in-7
 unfolding kind mark judged_of
 returns-in-7 c =
-    let o = c.before.before in
-    let m = o.before.before.before in
-    let j = m.before.before in
-    c.with_value.ensures ∙ rw (o.outside.ensures, judged-is j) (applied_value (state_of j) (recordOf j) m.in-7.is)
+    let j = (goal.at.returns-in-7 c).After-judged-s in
+    c.with_value.ensures ∙ rw (c.outside.ensures, judged-is j) (applied_value (state_of j) (recordOf j) c.in-7.is)
 
 pub returns-in-8 : goal.returns-in-8
 unfolding kind
 returns-in-8 c =
-    let j = c.before.before.before.before in
+    let j = (goal.at.returns-in-8 c).After-judged-s in
     c.emptied.ensures ∙ ap emptied (judged-is j) ∙ applied_drop (state_of j) (recordOf j) c.in-8.is
 
 pub returns-in-0 : goal.returns-in-0
 unfolding kind
-returns-in-0 c = let F = record-formed c.before.before.before in let k = c.in-0.is in absurd (omega (arith, F.least))
+returns-in-0 c = let F = record-formed (goal.at.returns-in-0 c).After-judged-s in let k = c.in-0.is in absurd (omega (arith, F.least))
 
 pub returns-in-9-to-255 : goal.returns-in-9-to-255
 unfolding kind
 returns-in-9-to-255 c =
-    let F = record-formed c.before.before.before in
+    let F = record-formed (goal.at.returns-in-9-to-255 c).After-judged-s in
     let n = c.in-9-to-255.in-9-to-255-own.rest in
     absurd (no_kind F.least F.most n.0.0.0.0.0.0.0.0.1 n.0.0.0.0.0.0.0.1 n.0.0.0.0.0.0.1 n.0.0.0.0.0.1 n.0.0.0.0.1 n.0.0.0.1 n.0.0.1 n.0.1)

@@ -1,6 +1,6 @@
 -- `apply::outside` meets its contract.
 use mathlib.Core.Path.{◌≡◌, sym, ap, subst, ◌∙◌}
-use mir.Syntax.{w32, w64}
+use mir.Syntax.{w32}
 use mir.Val.{to_z, of_z}
 use mir.Facts.{to_z-of_z}
 use Rattle.calibration.specs.Calibration.{LineRanged, value_of}
@@ -8,64 +8,51 @@ use Rattle.calibration.specs.PairLaws.{between_fits}
 use Rattle.calibration.proofs.ConditionLaws.{value_fits}
 use Rattle.records.specs.Record.{signal_of, value_conditions}
 use Rattle.records.specs.RecordLaws.{value_fields, ValueFields}
-use Rattle.records.specs.Kinds.{line_of, outside_by}
+use Rattle.records.specs.Kinds.{line_of, outside_by, Calibration}
 use Rattle.records.specs.Soundness.{CalibrationSound}
-use Rattle.records.specs.declared.state.Calibration.{Calibration}
-use Rattle.records.specs.declared.state.Function.{Function}
 use borrow.Author.Rules.{rules}
 use Rattle.records.proofs.apply.outside.Goals as goal
-use Rattle.records.proofs.apply.outside.Goals.{After-field_at, After-value-c, After-struct_told-in-InForce-3-1}
-
--- the numbers that `value` takes are read back as they are
-slope_back : (f : Function) → LineRanged (line_of f) → to_z w32 (of_z w32 f.slope) ≡ f.slope
-unfolding line_of
-slope_back f l = to_z-of_z {w = w32} (between_fits tt l.slope)
-
-intercept_back : (f : Function) → LineRanged (line_of f) → to_z w64 (of_z w64 f.intercept) ≡ f.intercept
-unfolding line_of
-intercept_back f l = to_z-of_z {w = w64} (between_fits tt l.intercept)
+use Rattle.records.proofs.apply.outside.Goals.{After-field_at}
 
 module _ (c : After-field_at) where
   fields : ValueFields c.args.r.now
-  fields = value_fields c.args.r.now c.requires.3
+  fields = value_fields c.args.r.now c.requires.2
 
   -- the function in force is in its range
-  line : LineRanged (line_of c.in-InForce.f)
-  line = subst CalibrationSound c.in-InForce.is c.requires.0
+  line : LineRanged (line_of c.in-Some.f)
+  line = subst CalibrationSound c.in-Some.is c.requires.0
 
-  oxygen-back : let o = c.args.s.requirements.oxygen in to_z w32 (of_z w32 o) ≡ o
+  oxygen-back : let o = c.args.st.now.setting.requirements.oxygen in to_z w32 (of_z w32 o) ≡ o
   oxygen-back = to_z-of_z {w = w32} (between_fits tt c.requires.1.requirements.oxygen)
 
   signal-back : to_z w32 (of_z w32 c.field_at.result) ≡ signal_of c.args.r.now
   unfolding signal_of
   signal-back = to_z-of_z {w = w32} (record { sfits = c.field_at.type_inv }) ∙ c.field_at.ensures
 
-top_back : (c : After-struct_told-in-InForce-3-1) → let t = c.in-InForce.f.top.0 in to_z w32 (of_z w32 t) ≡ t
-top_back c = to_z-of_z {w = w32} (search rules)
-
 pub value-c-requires : goal.value-c-requires
-unfolding line_of value_conditions
+unfolding value_conditions
 value-c-requires c =
     let k = (goal.at.value-c-requires c).After-field_at in (
       rw (oxygen-back k) c.requires.1.requirements.oxygen,
-      rw (slope_back c.in-InForce.f (line k), intercept_back c.in-InForce.f (line k)) (line k),
+      rw c.line.ensures (line k),
       rw c.conditions_at.ensures (fields k).conditions,
       rw (signal-back k) (fields k).signal,
     )
 
-pub returns-in-Absent : goal.returns-in-Absent
+pub returns-in-None : goal.returns-in-None
 unfolding outside_by
-returns-in-Absent c = let a = c.args in sym (ap (λ (k : Calibration). outside_by a.edition k a.s a.r.now) c.in-Absent.is)
+returns-in-None c = let a = c.args in sym (ap (λ (k : Calibration). outside_by a.st.now.edition k a.st.now.setting a.r.now) c.in-None.is)
 
-pub returns-in-InForce : goal.returns-in-InForce
+pub returns-in-Some : goal.returns-in-Some
 unfolding outside_by line_of value_conditions
-returns-in-InForce c =
-    let k = (goal.at.returns-in-InForce c).After-field_at in
+returns-in-Some c =
+    let k = (goal.at.returns-in-Some c).After-field_at in
     let a = c.args in
-    let f = c.in-InForce.f in
-    let is : c.value-c.result ≡ value_of a.edition a.s.requirements.oxygen (line_of f) (value_conditions a.r.now) (signal_of a.r.now) =
-    c.value-c.ensures ∙ rw (oxygen-back k, slope_back f (line k), intercept_back f (line k), c.conditions_at.ensures, signal-back k) in
+    let f = c.in-Some.f in
+    let is : c.value-c.result ≡ value_of a.st.now.edition a.st.now.setting.requirements.oxygen (line_of f) (value_conditions a.r.now) (signal_of a.r.now) =
+    c.value-c.ensures ∙ rw (oxygen-back k, c.line.ensures, c.conditions_at.ensures, signal-back k) in
     let back : to_z w32 (of_z w32 c.value-c.result.0) ≡ c.value-c.result.0 =
     rw is (to_z-of_z {w = w32} (value_fits _ _ _ _ _ c.requires.1.requirements.oxygen (line k) (fields k).conditions (fields k).signal)) in
-    rw (back, top_back (goal.at.returns-in-InForce c).After-struct_told-in-InForce-3-1, is)
-    (sym (ap (λ (k : Calibration). outside_by a.edition k a.s a.r.now) c.in-InForce.is))
+    let top : to_z w32 (of_z w32 f.top.0) ≡ f.top.0 = to_z-of_z {w = w32} (search rules) in
+    rw (back, top, is)
+    (sym (ap (λ (k : Calibration). outside_by a.st.now.edition k a.st.now.setting a.r.now) c.in-Some.is))

@@ -13,19 +13,7 @@ use Rattle.records.proofs.TableLaws.{Accepted, accepted, reading_passed, zero_op
 use Rattle.records.specs.State.{facts_of}
 use Rattle.records.proofs.InPlaceLaws.{zero_changes, span_changes}
 use Rattle.records.proofs.apply.reading.Goals as goal
-use Rattle.records.proofs.apply.reading.Lts as lts
-use Rattle.records.proofs.apply.reading.Tie as tie
-use Rattle.records.proofs.apply.reading.Reads as reads
-use Rattle.records.proofs.apply.reading.Goals.{Start}
-
-abbrev At-After-difference_of-d : Type 0
-At-After-difference_of-d = lts.After-difference_of tie.the-claims reads.Pre reads.Post
-
-abbrev At-After-read32 : Type 0
-At-After-read32 = lts.After-read32 tie.the-claims reads.Pre reads.Post
-
-abbrev At-Else-r-eq0 : Type 0
-At-Else-r-eq0 = lts.Else1 tie.the-claims reads.Pre reads.Post
+use Rattle.records.proofs.apply.reading.Goals.{Start, After-difference_of-d, After-read32, Else-r-eq0}
 
 passed : (c : Start) → Accepted (facts_of c.args.st) c.args.r.now
 passed c = accepted (facts_of c.args.st) c.args.r.now c.requires.accepted
@@ -37,56 +25,50 @@ ranges c = reading_ranged_lem c.args.r.now (passed c).ranged c.requires.is
 opens : (c : Start) → reading_refusal (facts_of c.args.st) c.args.r.now ≡ 0
 opens c = reading_passed (facts_of c.args.st) c.args.r.now (passed c) c.requires.is
 
-time : (c : At-After-read32) → c.read32.result ≡ minute c.before.before.before.args.r.now
+time : (c : After-read32) → c.read32.result ≡ minute c.args.r.now
 unfolding minute
 time c = c.read32.ensures
 
-back : (c : At-After-difference_of-d) → to_z w32 (of_z w32 c.difference_of-d.result) ≡ difference_of c.before.before.args.r.now
+back : (c : After-difference_of-d) → to_z w32 (of_z w32 c.difference_of-d.result) ≡ difference_of c.args.r.now
 back c = to_z-of_z {w = w32} (record { sfits = c.difference_of-d.type_inv }) ∙ c.difference_of-d.ensures
 
 pub difference_of-d-requires : goal.difference_of-d-requires
-difference_of-d-requires c = (c.requires.size, ranges c.before.before)
+difference_of-d-requires c = ranges (goal.at.difference_of-d-requires c).Start
 
-pub apply-after-requires : goal.apply-after-requires
+pub apply-st-requires : goal.apply-st-requires
 unfolding facts_of mark
-apply-after-requires c =
-    let d = c.before.before.before.before.before in
-    let s = d.before.before in
-    let o = zero_open (facts_of s.args.st) s.args.r.now (opens s) c.if-r-eq0.true in
-    (s.requires.sound.zero, o.room, rw (back d) (reading_fields s.args.r.now (ranges s)).difference)
+apply-st-requires c =
+    let at = goal.at.apply-st-requires c in
+    let o = zero_open (facts_of c.args.st) c.args.r.now (opens at.Start) c.if-r-eq0.true in
+    (c.requires.sound.zero, o.room, rw (back at.After-difference_of-d) (reading_fields c.args.r.now (ranges at.Start)).difference)
 
 pub returns-then-r-eq0 : goal.returns-then-r-eq0
 unfolding mark
 returns-then-r-eq0 c =
-    let i = c.before.before.before in
-    let t = i.before.before in
-    let d = t.before in
-    let s = d.before.before in
-    zero_changes s.args.st s.args.r.now s.requires.week t.read32.result (time t) s.requires.is i.if-r-eq0.true c.apply-after.result
-    (c.apply-after.ensures ∙ ap (applied_of s.args.st.zero s.args.st.edition s.args.st.setting.zero) (back d))
+    let at = goal.at.returns-then-r-eq0 c in
+    let st = c.args.st in
+    zero_changes st c.args.r.now c.requires.week c.read32.result (time at.After-read32) c.requires.is c.if-r-eq0.true c.apply-st.result
+    (c.apply-st.ensures ∙ ap (applied_of st.zero st.edition st.setting.zero) (back at.After-difference_of-d))
 
-pub apply-after-requires-2 : goal.apply-after-requires-2
+pub apply-st-requires-2 : goal.apply-st-requires-2
 unfolding facts_of mark
-apply-after-requires-2 c =
-    let d = c.before.before.before.before.before in
-    let s = d.before.before in
-    let o = span_open (facts_of s.args.st) s.args.r.now (opens s) c.if-r-eq0.false in
-    (s.requires.sound.span, o.room, rw (back d) (reading_fields s.args.r.now (ranges s)).difference)
+apply-st-requires-2 c =
+    let at = goal.at.apply-st-requires-2 c in
+    let o = span_open (facts_of c.args.st) c.args.r.now (opens at.Start) c.if-r-eq0.false in
+    (c.requires.sound.span, o.room, rw (back at.After-difference_of-d) (reading_fields c.args.r.now (ranges at.Start)).difference)
 
 -- a reading's mark is 0 or 1
-second : (c : At-Else-r-eq0) → let s = c.before.before.before.before.before in mark s.args.r.now ≡ 1
+second : (s : Start) (n : mark s.args.r.now ≡ 0 → ⊥) → mark s.args.r.now ≡ 1
 unfolding mark kind mark_limit
-second c =
-    let s = c.before.before.before.before.before in
+second s n =
     let F = formed_fields s.args.r.now (passed s).formed in
     let h = rw s.requires.is at F.mark in
-    omega (arith, h, c.if-r-eq0.false)
+    omega (arith, h, n)
 
 pub returns : goal.returns
+unfolding mark
 returns c =
-    let i = c.before.before.before in
-    let t = i.before.before in
-    let d = t.before in
-    let s = d.before.before in
-    span_changes s.args.st s.args.r.now s.requires.week t.read32.result (time t) s.requires.is (second i) c.apply-after-2.result
-    (c.apply-after-2.ensures ∙ ap (applied_of s.args.st.span s.args.st.edition s.args.st.setting.span) (back d))
+    let at = goal.at.returns c in
+    let st = c.args.st in
+    span_changes st c.args.r.now c.requires.week c.read32.result (time at.After-read32) c.requires.is (second at.Start c.if-r-eq0.false) c.apply-st-2.result
+    (c.apply-st-2.ensures ∙ ap (applied_of st.span st.edition st.setting.span) (back at.After-difference_of-d))

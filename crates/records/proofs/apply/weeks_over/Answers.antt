@@ -1,10 +1,14 @@
 -- `apply::weeks_over` meets its contract.
-use mathlib.Core.Path.{sym, ◌∙◌}
-use Rattle.charts.specs.Tests.{if_yes, if_no}
+use Rattle.std.proofs.Common.{◌≡◌, ℕ, ◌+◌, Bool, true, false, refl}
+use Rattle.std.specs.Prelude.{if◌then◌else◌}
+use native.Mathlib.Omega.{arith}
+use mir.Val.{bool_byte}
 use Rattle.records.proofs.apply.weeks_over.Goals as goal
 
-pub returns-then-exceeds : goal.returns-then-exceeds
-returns-then-exceeds c = sym (if_yes _ _ _ (sym c.before.exceeds.ensures ∙ c.if-exceeds.true))
+-- one more where a test holds
+more : (n : ℕ) (b : Bool) → n + bool_byte b ≡ (if b then n + 1 else n)
+more n true = refl
+more n false = omega arith
 
 pub returns : goal.returns
-returns c = sym (if_no _ _ _ (sym c.before.exceeds.ensures ∙ c.if-exceeds.false))
+returns c = rw (c.from.ensures, c.exceeds.ensures) (more _ _)

@@ -6,12 +6,8 @@ use Rattle.records.proofs.apply.with_reset.Goals as goal
 
 pub returns-then-r-eq0 : goal.returns-then-r-eq0
 unfolding with_reset with_zero mark
-returns-then-r-eq0 c =
-    let k = c.before.before.before.before in
-    rw (eq-eqb _ 0 k.before.before.if-r-eq0.true, k.reset.ensures)
+returns-then-r-eq0 c = rw (eq-eqb _ 0 c.if-r-eq0.true, c.reset.ensures)
 
 pub returns : goal.returns
 unfolding with_reset with_span mark
-returns c =
-    let k = c.before.before.before.before in
-    rw (ne_eqb _ 0 k.before.before.if-r-eq0.false, k.reset-2.ensures)
+returns c = rw (ne_eqb _ 0 c.if-r-eq0.false, c.reset-2.ensures)

@@ -1,18 +1,13 @@
--- `bytes::all_zero` meets its contract. The invariant: no bit came so far and the bytes from i on are zero, exactly if all are.
-use mathlib.Core.Path.{refl, sym, ◌∙◌}
-use native.Mathlib.Omega.{arith}
-use Rattle.records.proofs.ByteLoops.{zero_turn, zero_end}
+-- `bytes::all_zero` meets its contract.
+use Rattle.std.proofs.Common.{ap, ◌∙◌, nat_eq, bit_or, rules}
+use Rattle.std.proofs.lemmas.Iterator.{YieldsList-from_slice}
+use Rattle.std.proofs.lemmas.Iterator.Consumers.{fold_from_yields_List}
+use Rattle.records.specs.Bytes.{part}
+use Rattle.records.proofs.NoBits.{no_bit}
 use Rattle.records.proofs.bytes.all_zero.Goals as goal
-
-pub loop-i-init : goal.loop-i-init
-loop-i-init c = (omega arith, refl)
-
-pub loop-i-preserved : goal.loop-i-preserved
-loop-i-preserved c =
-    let v = c.loop-i in
-    (omega arith, sym (zero_turn _ v.i _ v.any (omega arith) (omega arith)) ∙ v.invariant.1)
 
 pub returns : goal.returns
 returns c =
-    let v = c.loop-i in
-    sym (zero_end _ v.i _ v.any (omega arith)) ∙ v.invariant.1
+    let a = c.args in
+    let e = fold_from_yields_List _ bit_or 0 c.fold.result c.fold.ensures.ran (YieldsList-from_slice (part a.from a.to a.bytes.now) cc) (λ any x b q k. search rules) in
+    ap (λ n. nat_eq n 0) e ∙ no_bit (part a.from a.to a.bytes.now) 0

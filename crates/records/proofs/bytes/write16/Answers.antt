@@ -1,20 +1,13 @@
 -- `bytes::write16` meets its contract.
-use mathlib.Core.Path.{◌≡◌, ◌∙◌, ap}
-use mathlib.Core.List.{[], ◌∷◌}
-use Prim.Native.Nat.{ℕ, ◌/◌, ◌%◌}
-use native.Mathlib.Omega.{arith}
-use lib.ListN.{length-set}
-use Rattle.records.specs.Bytes.{bytes16, written}
-use Rattle.records.specs.BytesLaws.{stored_two}
+use Rattle.std.proofs.Common.{◌≡◌, ◌∙◌, arith}
+use Rattle.std.proofs.lemmas.Grind.{common_steps}
+use Rattle.records.specs.Bytes.{bytes16}
+use Rattle.records.specs.BytesLaws.{bytes16_length}
+use Rattle.records.proofs.LittleEndian.{to_le_bytes_16}
 use Rattle.records.proofs.bytes.write16.Goals as goal
 
-pub bounds-target-at-2 : goal.bounds-target-at-2
-bounds-target-at-2 c = simp length-set (omega arith)
-
 pub returns : goal.returns
-unfolding bytes16
 returns c =
-    let a = c.args in
-    let e : a.n / 256 ≡ a.n / 256 % 256 = omega arith in
-    stored_two a.target.now a.at (a.n % 256) (a.n / 256) c.requires
-    ∙ ap (λ (x : ℕ). written a.target.now a.at (a.n % 256 ∷ x ∷ [])) e
+    let e : c.copy_from_slice.new.self ≡ bytes16 c.args.n = c.copy_from_slice.ensures.after ∙ c.to_le_bytes.ensures ∙ to_le_bytes_16 c.args.n in
+    let count = bytes16_length c.args.n in
+    grind (arith, common_steps)

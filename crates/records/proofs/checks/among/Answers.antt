@@ -1,30 +1,16 @@
--- `checks::among` meets its contract. The invariant: the day is among those from i on exactly if it is among all.
-use mathlib.Core.Path.{refl, sym, ap, ◌∙◌}
-use mathlib.Core.List.{List, map}
-use native.Mathlib.Omega.{arith}
+-- `checks::among` meets its contract.
+use Rattle.std.proofs.Common.{refl, ◌∙◌, ◌||◌, map, eqb, rules, tests}
+use Rattle.std.specs.List.{list_any}
+use Rattle.std.proofs.lemmas.Iterator.{YieldsList-from_slice}
+use Rattle.std.proofs.lemmas.Iterator.Search.{any_from_yields_List}
+use Rattle.std.proofs.lemmas.List.Recursion.{same_from_clauses}
 use Rattle.records.specs.Table.{among, end_day}
-use Rattle.records.specs.ListLaws.{from_end}
 use Rattle.records.specs.declared.state.Waiting.{Waiting}
-use Rattle.records.proofs.PairLoops.{among_yes, among_turn}
 use Rattle.records.proofs.checks.among.Goals as goal
-
-pub loop-i-init : goal.loop-i-init
-loop-i-init c = (omega arith, refl)
-
-pub returns-then-w-day : goal.returns-then-w-day
-returns-then-w-day c =
-    let v = c.before.before.before.before.loop-i in
-    let a = c.before.before.before.before.before.args in
-    sym (among_yes a.pairs a.n v.i _ (omega arith) (omega arith) a.day c.if-w-day.true) ∙ v.invariant.1
-
-pub loop-i-preserved : goal.loop-i-preserved
-loop-i-preserved c =
-    let v = c.before.before.before.before.loop-i in
-    let a = c.before.before.before.before.before.args in
-    (omega arith, sym (among_turn a.pairs a.n v.i _ (omega arith) (omega arith) a.day c.if-w-day.false) ∙ v.invariant.1)
 
 pub returns : goal.returns
 returns c =
-    let v = c.before.loop-i in
-    let a = c.before.before.args in
-    sym (ap (λ (l : List Waiting). among a.day (map end_day l)) (from_end a.pairs a.n v.i (omega arith))) ∙ v.invariant.1
+    let day = c.args.day in
+    let ends = λ (w : Waiting). eqb day (end_day w) in
+    any_from_yields_List ends _ _ c.any.result c.any.ensures.ran (YieldsList-from_slice c.args.pairs.now cc) (λ x b q k. search (rules, tests))
+    ∙ same_from_clauses (list_any ends) (λ ws. among day (map end_day ws)) (λ w b. ends w || b) refl (λ _ _. refl) (λ _ _. refl) c.args.pairs.now

@@ -1,13 +1,8 @@
 -- `checks::different_days` meets its contract. The invariant: the days counted and those still to count, from i on, make up all.
-use mathlib.Core.Path.{◌≡◌}
-use Prim.Native.Nat.{◌≤◌, ◌+◌, ◌-◌}
-use Rattle.records.specs.Table.{different}
-use Rattle.records.proofs.PairLoops.{end_days}
+use Rattle.std.proofs.Common.{◌≡◌, ◌≤◌, ◌+◌, map, drop}
+use Rattle.records.specs.Table.{different, end_day}
 use Rattle.records.proofs.checks.different_days.Given as goal
 
 abbrev pub invariant-loop-i : goal.invariant-loop-i
 invariant-loop-i l =
-    (l.i ≤ l.n) × (l.days ≤ l.i) × (l.days + different (end_days l.pairs l.n l.i) ≡ different (end_days l.pairs l.n 0))
-
-abbrev pub decreases-loop-i : goal.decreases-loop-i
-decreases-loop-i l = l.n - l.i
+    (l.days ≤ l.i) × (l.days + different (map end_day (drop l.i l.pairs)) ≡ different (map end_day l.pairs))

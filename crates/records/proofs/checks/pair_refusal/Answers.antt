@@ -1,6 +1,6 @@
 -- `checks::pair_refusal` meets its contract.
 use mathlib.Core.Path.{◌≡◌, refl, sym, ap, ◌∙◌}
-use mathlib.Core.Bool.{Bool, not}
+use mathlib.Core.Bool.{Bool, true, false, not}
 use native.Mathlib.Omega.{arith}
 use lib.Dec.{leb, lit<}
 use lib.IntN.{ℤ, pos}
@@ -16,13 +16,7 @@ use Rattle.records.specs.Table.{pair_refusal, times_fit}
 use Rattle.records.specs.State.{facts_of}
 use Rattle.records.proofs.StateLaws.{thirty}
 use Rattle.records.proofs.checks.pair_refusal.Goals as goal
-use Rattle.records.proofs.checks.pair_refusal.Lts as lts
-use Rattle.records.proofs.checks.pair_refusal.Tie as tie
-use Rattle.records.proofs.checks.pair_refusal.Reads as reads
-use Rattle.records.proofs.checks.pair_refusal.Goals.{Start}
-
-abbrev At-After-field_at : Type 0
-At-After-field_at = lts.After-field_at tie.the-claims reads.Pre reads.Post
+use Rattle.records.proofs.checks.pair_refusal.Goals.{Start, After-field_at}
 
 -- the definition by its three tests
 whole : (c : Start) {full fit low : Bool}
@@ -33,28 +27,31 @@ whole : (c : Start) {full fit low : Bool}
 unfolding pair_refusal facts_of coverage_of
 whole c e f g =
     let st = c.args.st in
-    rw (length-take-le st.pending st.pairs (omega (arith, c.requires.1.pending, thirty st _ c.well_formed.0)), e, f, g)
+    rw (length-take-le st.pending st.pairs (omega (arith, c.requires.0.pending, thirty st _ c.well_formed.0)), e, f, g)
 
 pub returns-then-st-ge30 : goal.returns-then-st-ge30
-returns-then-st-ge30 c = sym (whole c.before.before.before.before (le-leb _ _ c.if-st-ge30.true) refl refl)
+returns-then-st-ge30 c = sym (whole (goal.at.returns-then-st-ge30 c).Start (le-leb _ _ c.if-st-ge30.true) refl refl)
 
 pub returns-then-not-times_fit : goal.returns-then-not-times_fit
 returns-then-not-times_fit c =
-    let t = c.before.before in
-    sym (whole t.before.before.before.before (lt-leb _ _ t.before.if-st-ge30.false) (sym t.times_fit.ensures ∙ c.if-not-times_fit.true) refl)
+    sym (whole (goal.at.returns-then-not-times_fit c).Start (lt-leb _ _ c.if-st-ge30.false) (sym c.times_fit.ensures ∙ c.if-not-times_fit.true) refl)
 
 -- past the first two tests the coverage decides
-by-coverage : (c : At-After-field_at) {low : Bool}
-    → let a = c.before.before.before.before.before.before.args in
-    le_z (to_z w32 (of_z w32 c.field_at.result)) (to_z w32 90) ≡ low → pair_refusal (facts_of a.st) a.r.now ≡ (if low then 17 else 0)
-by-coverage c g =
-    let t = c.before.before in
+by-coverage : (s : Start) (c : After-field_at) {low : Bool} → s.args.st ≡ c.args.st → s.args.r.now ≡ c.args.r.now
+    → le_z (to_z w32 (of_z w32 c.field_at.result)) (to_z w32 90) ≡ low → pair_refusal (facts_of s.args.st) s.args.r.now ≡ (if low then 17 else 0)
+by-coverage s c {low} p q g =
     let v = c.field_at in
-    let z = ap (λ (x : ℤ). le_z x (pos 90)) (sym v.ensures) ∙ sym (le_flag {w = w32} (arg v.result (record { sfits = v.type_inv })) (lit 90 (lit< tt))) in
-    whole t.before.before.before.before (lt-leb _ _ t.before.if-st-ge30.false) (sym t.times_fit.ensures ∙ c.before.if-not-times_fit.false) (z ∙ g)
+    let z : le_z (field c.args.r.now 12) (pos 90) ≡ low = ap (λ (x : ℤ). le_z x (pos 90)) (sym v.ensures) ∙ sym (le_flag {w = w32} (arg v.result (record { sfits = v.type_inv })) (lit 90 (lit< tt))) ∙ g in
+    let few : leb 30 c.args.st.pending ≡ false = lt-leb _ _ c.if-st-ge30.false in
+    let timed : times_fit (facts_of c.args.st) c.args.r.now ≡ true = sym c.times_fit.ensures ∙ c.if-not-times_fit.false in
+    whole s {full = false} {fit = true} {low = low} (rw p few) (rw (p, q) timed) (rw q z)
 
 pub returns-then-field_at-le90 : goal.returns-then-field_at-le90
-returns-then-field_at-le90 c = sym (by-coverage c.before.before c.if-field_at-le90.true)
+returns-then-field_at-le90 c =
+    let at = goal.at.returns-then-field_at-le90 c in
+    sym (by-coverage at.Start at.After-field_at refl refl c.if-field_at-le90.true)
 
 pub returns : goal.returns
-returns c = sym (by-coverage c.before.before c.if-field_at-le90.false)
+returns c =
+    let at = goal.at.returns c in
+    sym (by-coverage at.Start at.After-field_at refl refl c.if-field_at-le90.false)

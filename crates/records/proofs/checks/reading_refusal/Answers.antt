@@ -9,6 +9,6 @@ pub returns-then-r-eq0 : goal.returns-then-r-eq0
 unfolding reading_refusal facts_of mark
 returns-then-r-eq0 c = rw (eq-eqb _ 0 c.if-r-eq0.true) c.chart_refusal.ensures
 
-pub returns : goal.returns
+pub returns-else-r-eq0 : goal.returns-else-r-eq0
 unfolding reading_refusal facts_of mark
-returns c = rw (ne_eqb _ 0 c.if-r-eq0.false) c.chart_refusal-2.ensures
+returns-else-r-eq0 c = rw (ne_eqb _ 0 c.if-r-eq0.false) c.chart_refusal-else-r-eq0.ensures

@@ -1,19 +1,20 @@
 -- `checks::value_refusal` meets its contract.
-use mathlib.Core.Path.{sym, ap}
-use Prim.Native.Nat.{ℕ}
-use Rattle.std.specs.Prelude.{if◌then◌else◌}
-use Rattle.records.specs.declared.state.Calibration.{Calibration}
+use Rattle.std.proofs.Common.{◌≡◌, refl}
+use Rattle.std.specs.Prelude.{None, Some, is_some}
+use Rattle.records.specs.Kinds.{Calibration}
 use Rattle.records.specs.Table.{value_refusal, in_force}
 use Rattle.records.specs.State.{facts_of}
 use Rattle.records.proofs.checks.value_refusal.Goals as goal
 
-abbrev by : Calibration → ℕ
-by k = if in_force k then 0 else 19
+-- a function is in force where there is one
+forced : (k : Calibration) → in_force k ≡ is_some k
+forced None = refl
+forced (Some f) = refl
 
-pub returns-in-Absent : goal.returns-in-Absent
+pub returns-then-is_none : goal.returns-then-is_none
 unfolding value_refusal facts_of
-returns-in-Absent c = sym (ap by c.in-Absent.is)
+returns-then-is_none c = rw (forced, c.is_none.ensures, c.if-is_none.true)
 
-pub returns-in-InForce : goal.returns-in-InForce
+pub returns : goal.returns
 unfolding value_refusal facts_of
-returns-in-InForce c = sym (ap by c.in-InForce.is)
+returns c = rw (forced, c.is_none.ensures, c.if-is_none.false)

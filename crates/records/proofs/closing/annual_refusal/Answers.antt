@@ -1,25 +1,24 @@
 -- `closing::annual_refusal` meets its contract.
-use mathlib.Core.Path.{◌≡◌, refl, sym, ap, ◌∙◌}
+use mathlib.Core.Path.{◌≡◌, refl, sym, ap, subst, ◌∙◌}
 use mathlib.Core.Bool.{Bool, not}
 use Prim.Native.Nat.{ℕ}
 use native.Mathlib.Omega.{arith}
 use lib.Dec.{eqb}
 use lib.ListN.{length}
 use lib.Seq.{length-take-le}
-use borrow.Author.Tests.{eq-eqb, ne_eqb}
+use borrow.Author.Tests.{ne_eqb}
 use Rattle.std.specs.Prelude.{if◌then◌else◌}
-use Rattle.calibration.specs.declared.Tested.{Tested}
+use Rattle.std.specs.Prelude.{Ok}
+use Rattle.refusals.specs.Rows.{number_of}
+use Rattle.calibration.specs.Outcomes.{Tested, tested, refused_test}
 use Rattle.records.specs.Record.{Record}
 use Rattle.records.specs.Table.{Facts, annual_of, annual_refusal, stores_test}
 use Rattle.records.specs.State.{facts_of}
+use Rattle.records.proofs.OutcomeLaws.{some_row, passed_on}
+use Rattle.records.specs.declared.state.State.{State}
 use Rattle.records.proofs.StateLaws.{thirty}
 use Rattle.records.proofs.closing.annual_refusal.Goals as goal
-use Rattle.records.proofs.closing.annual_refusal.Lts as lts
-use Rattle.records.proofs.closing.annual_refusal.Tie as tie
-use Rattle.records.proofs.closing.annual_refusal.Reads as reads
-
-abbrev At-After-stores_test : Type 0
-At-After-stores_test = lts.After-stores_test tie.the-claims reads.Pre reads.Post
+use Rattle.records.proofs.closing.annual_refusal.Goals.{Start, After-stores_test}
 
 -- the definition by its two tests
 whole : (f : Facts) (r : Record) (t : Tested) {none stores : Bool} → t ≡ annual_of f → eqb t.refusal 0 ≡ none → stores_test t (length f.pending) r ≡ stores
@@ -30,28 +29,31 @@ whole f r t {none} e p q =
     ∙ ap (λ (b : Bool). if not b then t.refusal else (if not (stores_test t (length f.pending) r) then 25 else 0)) p
     ∙ ap (λ (b : Bool). if not none then t.refusal else (if not b then 25 else 0)) q
 
-pub returns-then-t-ne0 : goal.returns-then-t-ne0
-returns-then-t-ne0 c =
-    let k = c.before.before.before in
-    let a = k.before.before.args in
-    sym (whole (facts_of a.st) a.r.now k.annual_result-t.result k.annual_result-t.ensures (ne_eqb _ 0 c.if-t-ne0.true) refl)
+pub returns-in_err-t : goal.returns-in_err-t
+returns-in_err-t c =
+    let e = c.in_err-t.field-0.0 in
+    rw (passed_on c.from_residual.result e c.from_residual.ensures.1)
+    (sym (whole (facts_of c.args.st) c.args.r.now (refused_test (number_of e)) c.in_err-t.ensures (ne_eqb _ 0 (some_row e)) refl))
+
+counted : (s : Start) → length (facts_of s.args.st).pending ≡ s.args.st.pending
+unfolding facts_of
+counted s = let st = s.args.st in length-take-le st.pending st.pairs (omega (arith, s.requires.0.pending, thirty st _ s.well_formed.0))
 
 -- past the first test the stored figures decide
-by-stores : (c : At-After-stores_test) {stores : Bool}
-    → let a = c.before.before.before.before.before.args in
-    c.stores_test.result ≡ stores → annual_refusal (facts_of a.st) a.r.now ≡ (if not stores then 25 else 0)
-unfolding facts_of
-by-stores c h =
-    let k = c.before.before.before in
-    let s = k.before.before in
-    let st = s.args.st in
-    let r = s.args.r.now in
-    let n = length-take-le st.pending st.pairs (omega (arith, s.requires.1.pending, thirty st _ s.well_formed.0)) in
-    whole (facts_of st) r k.annual_result-t.result k.annual_result-t.ensures (eq-eqb _ 0 c.before.if-t-ne0.false)
-    (ap (λ (n : ℕ). stores_test k.annual_result-t.result n r) n ∙ sym c.stores_test.ensures ∙ h)
+by-stores : (s : Start) (c : After-stores_test) {stores : Bool} → s.args.st ≡ c.args.st → c.stores_test.result ≡ stores
+    → annual_refusal (facts_of c.args.st) c.args.r.now ≡ (if not stores then 25 else 0)
+by-stores s c p h =
+    let t = tested (Ok c.in_ok-t.t) in
+    let n : length (facts_of c.args.st).pending ≡ c.args.st.pending = subst (λ (st : State). length (facts_of st).pending ≡ st.pending) p (counted s) in
+    whole (facts_of c.args.st) c.args.r.now t c.in_ok-t.ensures refl
+    (ap (λ (m : ℕ). stores_test t m c.args.r.now) n ∙ sym c.stores_test.ensures ∙ h)
 
 pub returns-then-not-stores_test : goal.returns-then-not-stores_test
-returns-then-not-stores_test c = sym (by-stores c.before.before (c.if-not-stores_test.true))
+returns-then-not-stores_test c =
+    let at = goal.at.returns-then-not-stores_test c in
+    sym (by-stores at.Start at.After-stores_test refl c.if-not-stores_test.true)
 
 pub returns : goal.returns
-returns c = sym (by-stores c.before.before (c.if-not-stores_test.false))
+returns c =
+    let at = goal.at.returns c in
+    sym (by-stores at.Start at.After-stores_test refl c.if-not-stores_test.false)

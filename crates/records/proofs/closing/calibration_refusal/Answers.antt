@@ -7,29 +7,20 @@ use lib.Dec.{eqb}
 use lib.ListN.{length, length-take}
 use mir.Syntax.{w32}
 use mir.Val.{to_z, of_z}
-use borrow.Author.Tests.{eq-eqb, ne_eqb}
+use borrow.Author.Tests.{ne_eqb}
 use Rattle.std.specs.Prelude.{if◌then◌else◌}
 use Rattle.calibration.specs.Pairs.{ZRanged}
-use Rattle.calibration.specs.declared.Fitted.{Fitted}
+use Rattle.std.specs.Prelude.{Ok}
+use Rattle.refusals.specs.Rows.{number_of}
+use Rattle.calibration.specs.Outcomes.{Fitted, fitted, refused_fit}
 use Rattle.records.specs.Record.{Record, z_of}
 use Rattle.records.specs.Table.{Facts, calibration_of, calibration_refusal, stores_fit}
 use Rattle.records.proofs.TableLaws.{calibration_count}
 use Rattle.records.specs.State.{facts_of}
+use Rattle.records.proofs.OutcomeLaws.{some_row, passed_on}
 use Rattle.records.proofs.SignedLaws.{given}
 use Rattle.records.proofs.closing.calibration_refusal.Goals as goal
-use Rattle.records.proofs.closing.calibration_refusal.Lts as lts
-use Rattle.records.proofs.closing.calibration_refusal.Tie as tie
-use Rattle.records.proofs.closing.calibration_refusal.Reads as reads
-use Rattle.records.proofs.closing.calibration_refusal.Goals.{Start}
-
-abbrev At-After-calibration_result-c : Type 0
-At-After-calibration_result-c = lts.After-calibration_result tie.the-claims reads.Pre reads.Post
-
-abbrev At-After-field_at : Type 0
-At-After-field_at = lts.After-field_at tie.the-claims reads.Pre reads.Post
-
-abbrev At-After-stores_fit : Type 0
-At-After-stores_fit = lts.After-stores_fit tie.the-claims reads.Pre reads.Post
+use Rattle.records.proofs.closing.calibration_refusal.Goals.{Start, After-field_at, After-stores_fit}
 
 -- the definition by its two tests
 whole : (f : Facts) (r : Record) (c : Fitted) {none stores : Bool} → c ≡ calibration_of f (z_of r) → eqb c.refusal 0 ≡ none → stores_fit c r ≡ stores
@@ -40,43 +31,46 @@ whole f r c {none} e p q =
     ∙ ap (λ (b : Bool). if not b then c.refusal else (if not (stores_fit c r) then 25 else 0)) p
     ∙ ap (λ (b : Bool). if not none then c.refusal else (if not b then 25 else 0)) q
 
-z-is : (c : At-After-field_at) → to_z w32 (of_z w32 c.field_at.result) ≡ z_of c.before.before.args.r.now
+z-is : (c : After-field_at) → to_z w32 (of_z w32 c.field_at.result) ≡ z_of c.args.r.now
 unfolding z_of
 z-is c = given w32 c.field_at.type_inv c.field_at.ensures
 
-result-is : (c : At-After-calibration_result-c) → let a = c.before.before.before.args in c.calibration_result-c.result ≡ calibration_of (facts_of a.st) (z_of a.r.now)
-result-is c = c.calibration_result-c.ensures ∙ ap (calibration_of (facts_of c.before.before.before.args.st)) (z-is c.before)
-
 few : (s : Start) → length (facts_of s.args.st).pending ≤ 30
 unfolding facts_of
-few s = omega (arith, s.requires.1.pending, length-take s.args.st.pending s.args.st.pairs)
+few s = omega (arith, s.requires.0.pending, length-take s.args.st.pending s.args.st.pairs)
 
-pub calibration_result-c-requires : goal.calibration_result-c-requires
-calibration_result-c-requires c = let s = c.before.before.before in (s.requires.1, s.requires.2, subst ZRanged (sym (z-is c.before)) s.requires.3)
+pub calibration_result-requires : goal.calibration_result-requires
+calibration_result-requires c =
+    (c.requires.0, c.requires.1, subst ZRanged (sym (z-is (goal.at.calibration_result-requires c).After-field_at)) c.requires.2)
 
-pub returns-then-c-ne0 : goal.returns-then-c-ne0
-returns-then-c-ne0 c =
-    let k = c.before.before.before in
-    let a = k.before.before.before.args in
-    sym (whole (facts_of a.st) a.r.now k.calibration_result-c.result (result-is k) (ne_eqb _ 0 c.if-c-ne0.true) refl)
+pub returns-in_err-c : goal.returns-in_err-c
+returns-in_err-c c =
+    let e = c.in_err-c.field-0.0 in
+    let f = facts_of c.args.st in
+    let z = z-is (goal.at.returns-in_err-c c).After-field_at in
+    rw (passed_on c.from_residual.result e c.from_residual.ensures.1)
+    (sym (whole f c.args.r.now (refused_fit (number_of e)) (c.in_err-c.ensures ∙ ap (calibration_of f) z) (ne_eqb _ 0 (some_row e)) refl))
 
 pub stores_fit-requires : goal.stores_fit-requires
 stores_fit-requires c =
-    let k = c.before.before.before in
-    let s = k.before.before.before in
-    (s.requires.0, subst (λ (u : Fitted). u.count ≤ 30) (sym (result-is k)) (calibration_count (facts_of s.args.st) (z_of s.args.r.now) (few s)))
+    let at = goal.at.stores_fit-requires c in
+    let f = facts_of c.args.st in
+    subst (λ (u : Fitted). u.count ≤ 30) (sym c.in_ok-c.ensures) (calibration_count f _ (few at.Start))
 
 -- past the first test the stored figures decide
-by-stores : (c : At-After-stores_fit) {stores : Bool}
-    → let a = c.before.before.before.before.before.before.args in
-    c.stores_fit.result ≡ stores → calibration_refusal (facts_of a.st) a.r.now ≡ (if not stores then 25 else 0)
-by-stores c h =
-    let k = c.before.before.before in
-    let a = k.before.before.before.args in
-    whole (facts_of a.st) a.r.now k.calibration_result-c.result (result-is k) (eq-eqb _ 0 c.before.if-c-ne0.false) (sym c.stores_fit.ensures ∙ h)
+by-stores : (k : After-field_at) (c : After-stores_fit) {stores : Bool} → k.args.r.now ≡ c.args.r.now → k.field_at.result ≡ c.field_at.result → c.stores_fit.result ≡ stores
+    → calibration_refusal (facts_of c.args.st) c.args.r.now ≡ (if not stores then 25 else 0)
+by-stores k c p q h =
+    let f = facts_of c.args.st in
+    let z : to_z w32 (of_z w32 c.field_at.result) ≡ z_of c.args.r.now = rw (← q, ← p) (z-is k) in
+    whole f c.args.r.now (fitted (Ok c.in_ok-c.c)) (c.in_ok-c.ensures ∙ ap (calibration_of f) z) refl (sym c.stores_fit.ensures ∙ h)
 
 pub returns-then-not-stores_fit : goal.returns-then-not-stores_fit
-returns-then-not-stores_fit c = sym (by-stores c.before.before (c.if-not-stores_fit.true))
+returns-then-not-stores_fit c =
+    let at = goal.at.returns-then-not-stores_fit c in
+    sym (by-stores at.After-field_at at.After-stores_fit refl refl c.if-not-stores_fit.true)
 
 pub returns : goal.returns
-returns c = sym (by-stores c.before.before (c.if-not-stores_fit.false))
+returns c =
+    let at = goal.at.returns c in
+    sym (by-stores at.After-field_at at.After-stores_fit refl refl c.if-not-stores_fit.false)

@@ -1,13 +1,5 @@
 -- `closing::calibration_result` meets its contract.
-use mathlib.Core.Path.{◌≡◌, refl, sym, ap, subst, ◌∙◌}
-use mathlib.Core.Bool.{Bool, true, not}
-use mathlib.Core.List.{List, map}
-use native.Mathlib.Omega.{arith}
-use lib.IntN.{ℤ}
-use lib.ListN.{length, take}
-use lib.Seq.{length-take-le}
-use mir.Syntax.{w32}
-use mir.Val.{to_z, of_z}
+use Rattle.std.proofs.Common.{◌≡◌, refl, sym, ap, subst, ◌∙◌, Bool, true, not, List, map, ℤ, length, take, length-take, length-take-le, arith, w32, to_z, of_z}
 use mir.Facts.{to_z-of_z}
 use Rattle.std.specs.Prelude.{if◌then◌else◌}
 use Rattle.calibration.specs.Pairs.{AllRanged}
@@ -20,7 +12,7 @@ use Rattle.records.specs.State.{facts_of}
 use Rattle.records.specs.declared.state.Waiting.{Waiting}
 use Rattle.records.proofs.StateLaws.{thirty}
 use Rattle.records.proofs.closing.calibration_result.Goals as goal
-use Rattle.records.proofs.closing.calibration_result.Goals.{After-figures, Else-not-count_fits, Start}
+use Rattle.records.proofs.closing.calibration_result.Goals.{After-figures-pairs, Else-not-count_fits, Start}
 
 module _ (s : Start) where
   -- the pairs that wait
@@ -40,43 +32,45 @@ module _ (s : Start) where
   unfolding calibration_of facts_of
   whole e f = rw (counted, e, f)
 
-fits : (c : Else-not-count_fits) → count_fits c.before.before.args.st.pending ≡ true
-fits c = let k = c.before.count_fits in sym k.ensures ∙ c.if-not-count_fits.false
+fits : (c : Else-not-count_fits) → count_fits c.args.st.pending ≡ true
+fits c = sym c.count_fits.ensures ∙ c.if-not-count_fits.false
 
-figures-are : (c : After-figures) → let s = c.before.before.before.before.before.before.before in take s.args.st.pending c.figures.result ≡ map pair_of_waiting (ws s)
+figures-are : (c : After-figures-pairs) → let st = c.args.st in take st.pending c.figures-pairs.result ≡ map pair_of_waiting (take st.pending st.pairs)
 figures-are c =
-    let st = c.before.before.before.before.before.before.before.args.st in
-    ap (take st.pending) c.figures.ensures ∙ sym (map_take pair_of_waiting st.pending st.pairs)
+    let st = c.args.st in
+    ap (take st.pending) c.figures-pairs.ensures ∙ sym (map_take pair_of_waiting st.pending st.pairs)
 
 pub returns-then-not-count_fits : goal.returns-then-not-count_fits
 returns-then-not-count_fits c =
-    let k = c.before.before in
-    c.refused_fit.ensures ∙ sym (whole k.before (sym k.count_fits.ensures ∙ c.before.if-not-count_fits.true) refl)
+    sym (whole (goal.at.returns-then-not-count_fits c).Start (sym c.count_fits.ensures ∙ c.if-not-count_fits.true) refl)
 
 pub days_fit-requires : goal.days_fit-requires
 days_fit-requires c =
-    let s = c.before.before.before in
-    (count_above s.args.st.pending (fits c.before), s.requires.0.pending, s.requires.0.pairs)
+    let at = goal.at.days_fit-requires c in
+    omega (arith, count_above c.args.st.pending (fits at.Else-not-count_fits), counted at.Start)
 
 pub returns-then-not-days_fit : goal.returns-then-not-days_fit
 returns-then-not-days_fit c =
-    let d = c.before.before in
-    let e = d.before.before in
-    c.refused_fit-then-not-days_fit.ensures ∙ sym (whole e.before.before (fits e) (sym d.days_fit.ensures ∙ c.before.if-not-days_fit.true))
+    let at = goal.at.returns-then-not-days_fit c in
+    sym (whole at.Start (fits at.Else-not-count_fits) (sym c.days_fit.ensures ∙ c.if-not-days_fit.true))
 
 pub fit-requires : goal.fit-requires
 fit-requires c =
-    let s = c.before.before.before.before.before.before.before in
-    (s.requires.0.pending, subst AllRanged (sym (figures-are c)) (pairs_ranged (ws s) s.requires.0.pairs), s.requires.1.requirements, rw (z-back s) s.requires.2)
+    let st = c.args.st in
+    let at = goal.at.fit-requires c in
+    let S = c.requires.0 in (
+      omega (arith, length-take st.pending c.figures-pairs.result, S.pending),
+      subst AllRanged (sym (figures-are at.After-figures-pairs)) (pairs_ranged (take st.pending st.pairs) S.pairs),
+      c.requires.1.requirements,
+      rw (z-back at.Start) c.requires.2,
+    )
 
 pub returns : goal.returns
 returns c =
-    let l = c.before.before.before in
-    let d = l.before in
-    let e = d.before.before in
-    let s = e.before.before in
-    let q = s.args.st.setting.requirements in
+    let st = c.args.st in
+    let at = goal.at.returns c in
+    let q = st.setting.requirements in
     c.fit.ensures
-    ∙ ap (λ (z : ℤ). fit_of s.args.st.edition q z (take s.args.st.pending c.before.figures.result)) (z-back s)
-    ∙ ap (fit_of s.args.st.edition q s.args.z) (figures-are c.before)
-    ∙ sym (whole s (fits e) (sym d.days_fit.ensures ∙ l.if-not-days_fit.false))
+    ∙ ap (λ (z : ℤ). fit_of st.edition q z (take st.pending c.figures-pairs.result)) (z-back at.Start)
+    ∙ ap (fit_of st.edition q c.args.z) (figures-are at.After-figures-pairs)
+    ∙ sym (whole at.Start (fits at.Else-not-count_fits) (sym c.days_fit.ensures ∙ c.if-not-days_fit.false))

@@ -4,10 +4,13 @@ use mathlib.Core.Bool.{Bool, ◌&&◌}
 use Prim.Native.Nat.{ℕ}
 use lib.Dec.{eqb}
 use lib.IntN.{pos}
-use Rattle.calibration.specs.declared.Tested.{Tested}
+use Rattle.std.specs.Prelude.{Ok}
+use Rattle.calibration.specs.Outcomes.{Tested, tested}
 use Rattle.records.specs.Record.{Record, mark, field}
 use Rattle.records.specs.Table.{sameℤ, stores_test, test_mark}
-use Rattle.records.proofs.SignedLaws.{given_count}
+use Rattle.records.proofs.SignedLaws.{same_bits}
+use native.Mathlib.Omega.{arith}
+use mir.Syntax.{w32}
 use Rattle.records.proofs.closing.stores_test.Goals as goal
 
 -- the definition by what the code compares
@@ -18,8 +21,5 @@ whole t n r e f = rw (e, f)
 pub returns : goal.returns
 unfolding mark
 returns c =
-    let f = c.before.before in
-    let m = f.before in
-    let s = m.before.before.before in
-    let a = s.args in
-    whole a.t a.n a.r.now m.test_mark.ensures (given_count a.n s.requires.1 f.field_at.type_inv f.field_at.ensures c.same.ensures)
+    let a = c.args in
+    whole (tested (Ok a.t)) a.n a.r.now c.test_mark.ensures (same_bits w32 c.field_at.type_inv c.field_at.ensures (record { sfits = omega arith }))

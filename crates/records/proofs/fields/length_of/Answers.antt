@@ -9,22 +9,18 @@ use Rattle.records.specs.Record.{length_of, field}
 use Rattle.records.specs.RecordLaws.{waiting_fields}
 use Rattle.records.proofs.SignedLaws.{given, unsigned_need}
 use Rattle.records.proofs.fields.length_of.Goals as goal
-use Rattle.records.proofs.fields.length_of.Lts as lts
-use Rattle.records.proofs.fields.length_of.Tie as tie
-use Rattle.records.proofs.fields.length_of.Reads as from
-
-abbrev At-After-field_at : Type 0
-At-After-field_at = lts.After-field_at tie.the-claims from.Pre from.Post
+use Rattle.records.proofs.fields.length_of.Goals.{After-field_at}
 
 -- the field, as it is cast
-reads : (c : At-After-field_at) → to_z w32 (of_z w32 c.field_at.result) ≡ field c.before.before.args.r.now 8
+reads : (c : After-field_at) → to_z w32 (of_z w32 c.field_at.result) ≡ field c.args.r.now 8
 reads c = given w32 c.field_at.type_inv c.field_at.ensures
 
 pub overflow_cast-result : goal.overflow_cast-result
-overflow_cast-result c = unsigned_need w32 (lit< tt) (reads c.before) (waiting_fields _ c.requires.1).length
+overflow_cast-result c =
+    unsigned_need w32 (lit< tt) (reads (goal.at.overflow_cast-result c).After-field_at) (waiting_fields _ c.requires).length
 
 pub returns : goal.returns
 unfolding length_of
 returns c =
-    let e = ap nat_abs (reads c.before) in
-    (e, omega (arith, e, (waiting_fields _ c.requires.1).most))
+    let e = ap nat_abs (reads (goal.at.returns c).After-field_at) in
+    (e, omega (arith, e, (waiting_fields _ c.requires).most))

@@ -5,7 +5,7 @@ use Rattle.records.proofs.fields.waiting_of.Goals as goal
 
 pub overflow_sub-result : goal.overflow_sub-result
 unfolding minute
-overflow_sub-result c = omega (arith, c.requires.2, c.length_of.ensures.0, c.read32-end.ensures)
+overflow_sub-result c = omega (arith, c.requires.1, c.length_of.ensures.0, c.read32-end.ensures)
 
 pub returns : goal.returns
 unfolding waiting_of minute

@@ -12,13 +12,7 @@ use Rattle.records.specs.State.{facts_of}
 use Rattle.records.specs.Soundness.{SettingSound}
 use Rattle.records.proofs.SoundnessLaws.{setting_known}
 use Rattle.records.proofs.step.kind_refusal.Goals as goal
-use Rattle.records.proofs.step.kind_refusal.Lts as lts
-use Rattle.records.proofs.step.kind_refusal.Tie as tie
-use Rattle.records.proofs.step.kind_refusal.Reads as reads
 use Rattle.records.proofs.step.kind_refusal.Goals.{Start}
-
-abbrev At-In_default-1 : Type 0
-At-In_default-1 = lts.At-match-rest tie.the-claims reads.Pre reads.Post
 
 -- a record of another kind than 1 finds the setting
 unset : (r : Record) (k : ℕ) → kind r ≡ k → eqb k 1 ≡ false → T (not (sets r))
@@ -26,7 +20,7 @@ unfolding sets
 unset r k e n = subst (λ (b : Bool). T (not b)) (sym (ap (λ (m : ℕ). eqb m 1) e ∙ n)) tt
 
 known : (s : Start) (k : ℕ) → kind s.args.r.now ≡ k → eqb k 1 ≡ false → SettingSound s.args.st.setting
-known s k e n = setting_known s.args.st s.args.r.now s.requires.2 (unset s.args.r.now k e n) s.requires.1.setting
+known s k e n = setting_known s.args.st s.args.r.now s.requires.1 (unset s.args.r.now k e n) s.requires.0.setting
 
 -- the row of a kind that has none
 free : (f : Facts) (r : Record) → (kind r ≡ 2 → ⊥) → (kind r ≡ 4 → ⊥) → (kind r ≡ 5 → ⊥) → (kind r ≡ 6 → ⊥) → (kind r ≡ 7 → ⊥) → kind_refusal f r ≡ 0
@@ -36,23 +30,23 @@ free f r a b c d e = rw (ne_eqb (kind r) 2 a, ne_eqb (kind r) 4 b, ne_eqb (kind 
 pub pair_refusal-requires : goal.pair_refusal-requires
 unfolding kind
 pair_refusal-requires c =
-    let s = c.before.before.before.before in
+    let s = (goal.at.pair_refusal-requires c).Start in
     let k = c.in-4.is in
-    (s.requires.0, s.requires.1, known s 4 k refl, waiting_ranged_lem s.args.r.now s.requires.3 k)
+    (s.requires.0, known s 4 k refl, waiting_ranged_lem s.args.r.now s.requires.2 k)
 
 pub calibration_refusal-requires : goal.calibration_refusal-requires
 unfolding kind
 calibration_refusal-requires c =
-    let s = c.before.before.before.before in
+    let s = (goal.at.calibration_refusal-requires c).Start in
     let k = c.in-5.is in
     let r = s.args.r.now in
-    (s.requires.0, s.requires.1, known s 5 k refl, z_field r (z_ranged r s.requires.3 k))
+    (s.requires.0, known s 5 k refl, z_field r (z_ranged r s.requires.2 k))
 
 pub annual_refusal-requires : goal.annual_refusal-requires
 unfolding kind
 annual_refusal-requires c =
-    let s = c.before.before.before.before in
-    (s.requires.0, s.requires.1, known s 6 c.in-6.is refl)
+    let s = (goal.at.annual_refusal-requires c).Start in
+    (s.requires.0, known s 6 c.in-6.is refl)
 
 pub returns-in-2 : goal.returns-in-2
 unfolding kind_refusal kind

@@ -2,11 +2,13 @@
 use borrow.Author.Tests.{eq-eqb, ne_eqb}
 use mathlib.Core.Path.{◌≡◌, sym, ap, ◌∙◌}
 use Prim.Native.Nat.{ℕ}
+use Rattle.refusals.specs.Rows.{number_of}
 use Rattle.charts.specs.Tests.{if_yes, if_no}
 use Rattle.records.specs.Record.{Record}
 use Rattle.records.specs.Table.{refusal_in}
 use Rattle.records.specs.State.{facts_of, applied_to, step_of}
 use Rattle.records.specs.declared.state.State.{State}
+use Rattle.records.proofs.OutcomeLaws.{some_row, passed_on}
 use Rattle.records.proofs.step.step.Goals as goal
 
 -- the definition by its test
@@ -18,19 +20,17 @@ applied : (st : State) (r : Record) → refusal_in (facts_of st) r ≡ 0 → ste
 unfolding step_of
 applied st r e = if_yes _ _ _ (eq-eqb (refusal_in (facts_of st) r) 0 e)
 
-pub returns-then-n-ne0 : goal.returns-then-n-ne0
-returns-then-n-ne0 c =
+pub returns-in_err-refusal : goal.returns-in_err-refusal
+returns-in_err-refusal c =
     let a = c.args in
-    let e = c.refusal-n.ensures in
-    ap (λ (n : ℕ). record { refusal = n; state = a.st }) e ∙ sym (refused a.st a.r.now (λ z. c.if-n-ne0.true (e ∙ z)))
+    let e = c.in_err-refusal.field-0.0 in
+    let is : number_of e ≡ refusal_in (facts_of a.st) a.r.now = c.in_err-refusal.ensures in
+    rw (passed_on c.from_residual.result e c.from_residual.ensures.1)
+    (ap (λ (n : ℕ). record { refusal = n; state = a.st }) is ∙ sym (refused a.st a.r.now (λ z. some_row e (is ∙ z))))
 
 pub apply-requires : goal.apply-requires
-apply-requires c =
-    let s = c.before.before.before.before in
-    (s.requires.0, s.requires.1, sym c.refusal-n.ensures ∙ c.if-n-ne0.false)
+apply-requires c = (c.requires, sym c.in_ok-refusal.ensures)
 
 pub returns : goal.returns
 returns c =
-    let l = c.before.before in
-    let a = l.before.before.before.args in
-    ap (λ (s : State). record { refusal = 0; state = s }) c.apply.ensures ∙ sym (applied a.st a.r.now (sym l.before.refusal-n.ensures ∙ l.if-n-ne0.false))
+    ap (λ (s : State). record { refusal = 0; state = s }) c.apply.ensures ∙ sym (applied c.args.st c.args.r.now (sym c.in_ok-refusal.ensures))
