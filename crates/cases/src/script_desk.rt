@@ -1,5 +1,5 @@
 // What the commands of the script do: a state is brought about, records are listed, a block is formed of them or a closing made after them, blocks are
-// gathered in a run, and the run is taken. A target is filled with A5 before a call, so that a byte that was written is seen.
+// gathered in a run, and the run is taken. A target is filled before a call, so that a byte that was written is seen.
 use crate::print::{Flags, Or};
 use crate::script_command::Command;
 use crate::{charts_cases, script_record};
@@ -16,6 +16,9 @@ const LIST: usize = 520;
 const RUN: usize = 2048;
 
 const TARGET: usize = 600;
+
+// What a target holds before a call.
+const FILL: u8 = 0xa5;
 
 // What a script works on: a state, one that was kept, the record that is prepared, the listed records, the run of blocks, what the last call
 // left in its target, and the edition that is told.
@@ -70,7 +73,7 @@ impl Desk {
             record: [0; 40],
             list: Vec::new(alloc),
             run: Vec::new(alloc),
-            target: [165; TARGET],
+            target: [FILL; TARGET],
             edition: 1,
         }
     }
@@ -142,7 +145,7 @@ impl Desk {
     // What a call answered, and whether the target has all its old bytes.
     fn tell(&self, rt: &impl Print, refused: Option<Refused>) -> io::Result<()> {
         let (row, place) = row_and_place(refused);
-        let untouched = self.target.iter().all(|b| *b == 165);
+        let untouched = self.target.iter().all(|b| *b == FILL);
         let target = if untouched { "kept" } else { "written" };
         print!(rt; " refused {row} place {place} {target}")
     }
@@ -157,7 +160,7 @@ impl Desk {
     // A block of the listed records, but for their last `less` bytes, in a target of `size` bytes. A block that was formed goes behind the run, and the
     // list is empty.
     fn form(&mut self, rt: &impl Print, size: u64, less: u64) -> io::Result<()> {
-        let mut target = [165; TARGET];
+        let mut target = [FILL; TARGET];
         let Some(bytes) = self.listed(less) else {
             return no_room(rt);
         };
@@ -181,7 +184,7 @@ impl Desk {
 
     // A closing after the listed records, but for their last `less` bytes, in a target of `size` bytes. One that was made is the prepared record.
     fn make(&mut self, rt: &impl Print, closing: Closing, size: u64, less: u64) -> io::Result<()> {
-        let mut target = [165; TARGET];
+        let mut target = [FILL; TARGET];
         let Some(bytes) = self.listed(less) else {
             return no_room(rt);
         };
