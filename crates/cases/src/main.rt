@@ -11,24 +11,28 @@ mod charts_cases;
 mod lent_cases;
 mod print;
 mod rounding_cases;
+mod runner;
 mod script;
-mod script_file;
+mod script_command;
+mod script_desk;
 mod script_record;
 mod script_words;
 
+use runner::Runner;
 use std::io;
 
 // The cases of every layer below the records.
-fn layers(rt: &impl Print, edition: u8) -> io::Result<()> {
-    rounding_cases::run(rt, edition)?;
-    charts_cases::run(rt, edition)?;
-    calibration_cases::run(rt, edition)?;
-    lent_cases::run(rt, edition)
+fn layers(rt: &(impl Print + AllocGlobal), edition: u8) -> io::Result<()> {
+    let runner = Runner { rt, edition };
+    runner.rounding()?;
+    runner.charts()?;
+    runner.calibration()?;
+    runner.lent()
 }
 
 fn main(rt: HostRuntime) -> io::Result<()> {
     layers(&rt, 1)?;
-    print::text(&rt, b"edition 2\n")?;
+    println!(&rt; "edition 2")?;
     layers(&rt, 2)?;
     lent_cases::no_edition(&rt)?;
     script::run(&rt)

@@ -1,54 +1,27 @@
 // The forty bytes of a record, from the numbers of a line.
-ghost use Rattle.std.specs.Prelude.{◌≤◌};
 
-use crate::script_words;
-use crate::script_words::Numbers;
-
-// The lowest `width` bytes of v from `at` on, the lowest first. What would come past the fortieth byte is left out.
-pub fn put(r: &mut [u8; 40], at: usize, width: usize, v: u64) {
-    let mut rest = v;
-    let mut i = at;
-    for _ in 0..width {
-        if 40 <= i {
-            return;
-        }
-        r[i] = (rest % 256) as u8;
-        rest /= 256;
-        i += 1;
+// Kind, mark and minute, and the fields from byte 8 on, of four bytes each, but of eight for the intercept of a calibration closing. What would come
+// past the fortieth byte is left out. More than eight fields make no record.
+pub fn record_of(kind: u64, mark: u64, minute: u64, fields: &[u64]) -> Option<[u8; 40]> {
+    if 8 < fields.len() {
+        return None;
     }
-}
-
-// How many bytes number i of a record's line takes: four, but eight for the intercept of a calibration closing.
-fn width(kind: u64, i: usize) -> usize
-    ensures { result ≤ 8 }
-{
-    if kind != 5 {
-        return 4;
+    let mut record = [0; 40];
+    record[..1].copy_from_slice(&kind.to_le_bytes()[..1]);
+    record[1..2].copy_from_slice(&mark.to_le_bytes()[..1]);
+    record[4..8].copy_from_slice(&minute.to_le_bytes()[..4]);
+    let bytes = fields.iter().enumerate().flat_map(|(i, field)| {
+        let width = if kind == 5 && i == 2 { 8 } else { 4 };
+        field.to_le_bytes().into_iter().take(width)
+    });
+    for (place, byte) in record[8..].iter_mut().zip(bytes) {
+        *place = byte;
     }
-    if i == 5 {
-        return 8;
-    }
-    4
-}
-
-// Kind, mark and minute, and the fields from byte 8 on.
-pub fn record_of(n: Numbers) -> [u8; 40] {
-    let kind = script_words::value(n, 0);
-    let mut r = [0u8; 40];
-    put(&mut r, 0, 1, kind);
-    put(&mut r, 1, 1, script_words::value(n, 1));
-    put(&mut r, 4, 4, script_words::value(n, 2));
-    let mut at: usize = 8;
-    for i in 3..11 {
-        let w = width(kind, i);
-        put(&mut r, at, w, script_words::value(n, i));
-        at += w;
-    }
-    r
+    Some(record)
 }
 
 // Moves the minute on by d.
-pub fn move_on(r: &mut [u8; 40], d: u64) {
-    let m = records::bytes::read32(r, 4);
-    put(r, 4, 4, (m as u64).wrapping_add(d));
+pub fn move_on(record: &mut [u8; 40], d: u64) {
+    let minute = u64::from(records::bytes::read32(record, 4));
+    record[4..8].copy_from_slice(&minute.wrapping_add(d).to_le_bytes()[..4]);
 }

@@ -1,7 +1,0 @@
-use Rattle.std.proofs.Common.{rules}
-use Rattle.records.specs.Soundness.{sound_answers}
-use Rattle.cases.specs.Answered.{yes}
-use Rattle.cases.proofs.script.stepped.Goals as goal
-
-pub step-requires : goal.step-requires
-step-requires c = (search rules, yes (sound_answers 4000000000 _) c.sound.ensures c.if-not-sound.false)

@@ -1,0 +1,283 @@
+// What the commands of the script do: a state is brought about, records are listed, a block is formed of them or a closing made after them, blocks are
+// gathered in a run, and the run is taken. A target is filled before a call, so that a byte that was written is seen.
+use crate::print::{Flags, Or};
+use crate::script_command::Command;
+use crate::{charts_cases, script_record};
+use charts::Chart;
+use file::{Closing, Refused};
+use records::state::State;
+use refusals::Refusal;
+use std::alloc::Global;
+use std::io;
+
+// The most bytes that are listed, that a run has, and that a target has.
+const LIST: usize = 520;
+
+const RUN: usize = 2048;
+
+const TARGET: usize = 600;
+
+// What a target holds before a call.
+const FILL: u8 = 0xa5;
+
+// What a script works on: a state, one that was kept, the record that is prepared, the listed records, the run of blocks, what the last call
+// left in its target, and the edition that is told.
+#[derive(Drop)]
+pub struct Desk {
+    state: State,
+    kept: State,
+    record: [u8; 40],
+    list: Vec<u8>,
+    run: Vec<u8>,
+    target: [u8; TARGET],
+    edition: u8,
+}
+
+fn no_room(rt: &impl Print) -> io::Result<()> {
+    print!(rt; " no room")
+}
+
+// A state that calls left is sound.
+fn step(st: State, record: &[u8; 40]) -> Result<State, Refusal> {
+    if !records::soundness::sound(4000000000, st) {
+        return Err(Refusal::State);
+    }
+    records::step::step(st, record)
+}
+
+// The readings of a chart; a chart that is not started has none.
+fn readings(c: Chart) -> Or<'static, u32> {
+    Or(c.started.then_some(c.readings), "-")
+}
+
+// The number of the row that refused a call, 0 for none, and the place of the record at fault, 255 for none.
+fn row_and_place(refused: Option<Refused>) -> (u32, u8) {
+    match refused {
+        Some(r) => (r.row.number(), r.place.unwrap_or(255)),
+        None => (0, 255),
+    }
+}
+
+// The check of some bytes.
+pub fn show_check(rt: &impl Print, text: &[u8]) -> io::Result<()> {
+    rt.write_all(text)?;
+    println!(rt; ": check {:04x}", file::check(text))
+}
+
+impl Desk {
+    pub fn new(alloc: Global) -> Desk {
+        let state = records::apply::initial(0);
+        Desk {
+            state,
+            kept: state,
+            record: [0; 40],
+            list: Vec::new(alloc),
+            run: Vec::new(alloc),
+            target: [FILL; TARGET],
+            edition: 1,
+        }
+    }
+
+    // What the prepared record would meet. The state stays as it is.
+    pub fn attempt(&self, rt: &impl Print, title: &[u8]) -> io::Result<()> {
+        let row = step(self.state, &self.record)
+            .err()
+            .map_or(0, Refusal::number);
+        rt.write_all(title)?;
+        println!(rt; ": {row}")
+    }
+
+    pub fn obey(&mut self, rt: &impl Print, command: Command) -> io::Result<()> {
+        match command {
+            Command::New(analyser) => self.state = records::apply::initial(analyser),
+            Command::Record(record) => self.record = record,
+            Command::Byte(at, byte) => {
+                if let Some(place) = self.record.get_mut(at) {
+                    *place = byte;
+                }
+            }
+            Command::Apply { times, apart } => self.apply(rt, times, apart)?,
+            Command::Keep => self.kept = self.state,
+            Command::Back => self.state = self.kept,
+            Command::List => self.list(rt)?,
+            Command::Clear => {
+                self.list.clear();
+                self.run.clear();
+            }
+            Command::Form { size, less } => self.form(rt, size, less)?,
+            Command::Make(closing, size, less) => self.make(rt, closing, size, less)?,
+            Command::Take(size) => self.take(rt, size)?,
+            Command::Poke(at, byte) => self.poke(rt, at, byte)?,
+            Command::Seal(block) => self.seal(rt, block)?,
+            Command::Expect(block) => self.state.next = block,
+            Command::Edition(edition) => self.edition = edition,
+            Command::Open(edition) => self.state.edition = edition,
+            Command::Bytes { from, to } => self.bytes(rt, from, to)?,
+            Command::Show => self.show(rt)?,
+            Command::Charts => self.charts(rt)?,
+            Command::Report => self.report(rt)?,
+            Command::End => println!(rt)?,
+        }
+        Ok(())
+    }
+
+    // The record so many times, each so many minutes after the one before, up to the first that is refused.
+    fn apply(&mut self, rt: &impl Print, times: u64, apart: u64) -> io::Result<()> {
+        for _ in 0..times {
+            match step(self.state, &self.record) {
+                Ok(after) => self.state = after,
+                Err(row) => return print!(rt; " refused {}", row.number()),
+            }
+            script_record::move_on(&mut self.record, apart);
+        }
+        Ok(())
+    }
+
+    // The prepared record is listed.
+    fn list(&mut self, rt: &impl Print) -> io::Result<()> {
+        if LIST < self.list.len() + 40 {
+            return no_room(rt);
+        }
+        self.list.extend_from_slice(&self.record)?;
+        Ok(())
+    }
+
+    // What a call answered, and whether the target has all its old bytes.
+    fn tell(&self, rt: &impl Print, refused: Option<Refused>) -> io::Result<()> {
+        let (row, place) = row_and_place(refused);
+        let untouched = self.target.iter().all(|b| *b == FILL);
+        let target = if untouched { "kept" } else { "written" };
+        print!(rt; " refused {row} place {place} {target}")
+    }
+
+    // The listed bytes, but for their last `less`.
+    fn listed(&self, less: u64) -> Option<&[u8]> {
+        let list = self.list.as_slice();
+        let n = (list.len() as u64).checked_sub(less)?;
+        Some(&list[..n as usize])
+    }
+
+    // A block of the listed records, but for their last `less` bytes, in a target of `size` bytes. A block that was formed goes behind the run, and the
+    // list is empty.
+    fn form(&mut self, rt: &impl Print, size: u64, less: u64) -> io::Result<()> {
+        let mut target = [FILL; TARGET];
+        let Some(bytes) = self.listed(less) else {
+            return no_room(rt);
+        };
+        let Some(asked) = target.get_mut(..size as usize) else {
+            return no_room(rt);
+        };
+        let answer = file::append(self.state, self.edition, bytes, asked);
+        self.target = target;
+        self.tell(rt, answer.err())?;
+        let Ok(after) = answer else {
+            return Ok(());
+        };
+        self.state = after;
+        if RUN < self.run.len() + 512 {
+            return no_room(rt);
+        }
+        self.run.extend_from_slice(&self.target[..512])?;
+        self.list.clear();
+        Ok(())
+    }
+
+    // A closing after the listed records, but for their last `less` bytes, in a target of `size` bytes. One that was made is the prepared record.
+    fn make(&mut self, rt: &impl Print, closing: Closing, size: u64, less: u64) -> io::Result<()> {
+        let mut target = [FILL; TARGET];
+        let Some(bytes) = self.listed(less) else {
+            return no_room(rt);
+        };
+        let Some(asked) = target.get_mut(..size as usize) else {
+            return no_room(rt);
+        };
+        let answer = file::make_closing(self.state, self.edition, bytes, closing, asked);
+        self.target = target;
+        self.tell(rt, answer.err())?;
+        if answer.is_ok() {
+            self.record.copy_from_slice(&self.target[..40]);
+        }
+        Ok(())
+    }
+
+    // The first `size` bytes of the run, and zeros past its end.
+    fn take(&mut self, rt: &impl Print, size: u64) -> io::Result<()> {
+        if size > RUN as u64 {
+            return no_room(rt);
+        }
+        let mut run = self.run.clone()?;
+        run.resize(size as usize, 0)?;
+        let r = file::replay(self.state, run.as_slice());
+        self.state = r.state;
+        let (row, place) = row_and_place(r.ended.err());
+        print!(rt;
+            " blocks {} refused {row} place {place} next {}",
+            r.blocks, r.state.next
+        )
+    }
+
+    // A byte of the run is changed.
+    fn poke(&mut self, rt: &impl Print, at: u64, byte: u64) -> io::Result<()> {
+        let Ok(byte) = u8::try_from(byte) else {
+            return no_room(rt);
+        };
+        let Some(place) = self.run.get_mut(at as usize) else {
+            return no_room(rt);
+        };
+        *place = byte;
+        Ok(())
+    }
+
+    // A block of the run gets its check.
+    fn seal(&mut self, rt: &impl Print, block: u64) -> io::Result<()> {
+        let (blocks, _) = self.run.as_mut_slice().as_chunks_mut::<512>();
+        let Some(block) = blocks.get_mut(block as usize) else {
+            return no_room(rt);
+        };
+        let check = file::check(&block[..510]);
+        block[510..].copy_from_slice(&check.to_le_bytes());
+        Ok(())
+    }
+
+    // Bytes of the target, in hexadecimal.
+    fn bytes(&self, rt: &impl Print, from: u64, to: u64) -> io::Result<()> {
+        print!(rt; " ")?;
+        for byte in self.target.iter().take(to as usize).skip(from as usize) {
+            print!(rt; "{byte:02x}")?;
+        }
+        Ok(())
+    }
+
+    fn show(&self, rt: &impl Print) -> io::Result<()> {
+        let st = &self.state;
+        print!(rt; " minute {} zero {}", st.minute, readings(st.zero))?;
+        print!(rt; " span {} pairs {}", readings(st.span), st.pending)?;
+        print!(rt;
+            " total {} outside {} over {}",
+            st.total, st.outside, st.over
+        )?;
+        print!(rt; " call {} calibration ", Or(st.demand, "-"))?;
+        match st.calibration {
+            Some(f) => print!(rt; "{} {} {} {}", f.slope, f.intercept, f.top.0, f.minute),
+            None => print!(rt; "-"),
+        }
+    }
+
+    // A line for each chart.
+    fn charts(&self, rt: &impl Print) -> io::Result<()> {
+        let st = &self.state;
+        charts_cases::show(rt, "zero", st.setting.zero, st.zero)?;
+        charts_cases::show(rt, "span", st.setting.span, st.span)
+    }
+
+    // The six alarms and usable.
+    fn report(&self, rt: &impl Print) -> io::Result<()> {
+        let r = file::reporting::report(self.state);
+        let usable = if r.usable { "yes" } else { "no" };
+        print!(rt;
+            " alarms {}{} usable {usable}",
+            Flags(r.zero),
+            Flags(r.span)
+        )
+    }
+}
