@@ -1,6 +1,6 @@
 // The report: the six alarms, and whether the analyser may be used (paper 01, 'Usable').
 ghost use Rattle.std.specs.Prelude.{◌≡◌};
-ghost use Rattle.records.specs.Answers.{recent_of, silent as Answers·silent, usable_of, young_of};
+ghost use Rattle.records.specs.Answers.{recent_of, silent as Answers·silent, young_of};
 ghost use Rattle.file.specs.Statement.{Statement3, report_of};
 
 use crate::Report;
