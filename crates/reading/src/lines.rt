@@ -1,5 +1,5 @@
 // The lines that the reader prints.
-ghost use Rattle.std.specs.Prelude.{◌≡◌, if◌then◌else◌};
+ghost use Rattle.std.specs.Prelude.{◌≡◌};
 ghost use Rattle.reading.specs.Lines.{yes_or_no};
 
 use file::Report;
