@@ -10,3 +10,4 @@ pub mod SumLaws
 pub mod OrderLaws
 pub mod SampleLaws
 pub mod OutcomeLaws
+pub mod GatheredLaws

@@ -14,3 +14,4 @@ pub mod EditionLaws
 pub mod RoundTrip
 pub mod ClosingLaws
 pub mod ClosingAccepted
+pub mod PlaceLaws
