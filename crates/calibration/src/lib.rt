@@ -323,6 +323,7 @@ fn top(edition: u8, limit: i32, most: Standard) -> Standard
 
 // ---- verdicts
 
+// The numbers of pairs that a calibration takes, and those of an annual test below, are data, as the factors are.
 pub fn count_fits(n: u32) -> bool
     ensures { result ≡ count_fits n }
 {
@@ -460,7 +461,7 @@ impl<'a> Sample<'a> {
         100 * (s.high.0 as i64 - s.low.0 as i64) < 15 * (self.basis.requirements.limit as i64)
     }
 
-    // Whether some y' or c is beyond ±10,000,000.
+    // Whether some y' or c is beyond ±10,000,000. By a loop: with `any` it is left open that each pair is in range.
     fn beyond(self, l: Line) -> bool
         requires { LineRanged l }
         ensures { result ≡ some_beyond self.entry.basis.edition self.entry.basis.requirements.oxygen l self.entry.pairs.now }

@@ -87,6 +87,7 @@ impl Desk {
         println!(rt; ": {row}")
     }
 
+    // One arm for each command; what it does is a method where it takes more than a line.
     pub fn obey(&mut self, rt: &impl Print, command: Command) -> io::Result<()> {
         match command {
             Command::New(analyser) => self.state = records::apply::initial(analyser),
@@ -182,6 +183,7 @@ impl Desk {
         Ok(())
     }
 
+    // Like `form`, and no shorter with what they share in a function that takes the call.
     // A closing after the listed records, but for their last `less` bytes, in a target of `size` bytes. One that was made is the prepared record.
     fn make(&mut self, rt: &impl Print, closing: Closing, size: u64, less: u64) -> io::Result<()> {
         let mut target = [FILL; TARGET];

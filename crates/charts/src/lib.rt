@@ -27,7 +27,7 @@ pub fn divide(n: i64, d: i64) -> Division
     }
 }
 
-// Whether there is such an edition.
+// Whether there is such an edition. It stays a byte: a caller may tell any, and each has its answer.
 pub fn edition_known(edition: u8) -> bool
     ensures { result ≡ edition_known edition }
 {
@@ -79,7 +79,8 @@ pub struct Sum {
 }
 
 // A control chart: P, M and V, the last difference, the count of readings since the reset, and the two adjustments,
-// downward at a rising alarm and upward at a falling one.
+// downward at a rising alarm and upward at a falling one. `started` stands beside them, and no Option around them: a chart that is not started may hold
+// any figures, and shows no alarm.
 #[derive(Clone, Copy, Default)]
 pub struct Chart {
     pub started: bool,

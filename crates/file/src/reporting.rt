@@ -20,7 +20,7 @@ fn young(limit: u32, m: u32, calibration: Option<Function>) -> bool
     calibration.is_some_and(|f| m.saturating_sub(f.minute) <= limit)
 }
 
-// No call, or a first one at most so many minutes old.
+// No call, or a first one at most so many minutes old. Not one function with `young`: without a calibration that says no, and this yes.
 fn recent(limit: u32, m: u32, demand: Option<u32>) -> bool
     ensures { result ≡ recent_of limit m demand }
 {
@@ -34,6 +34,7 @@ pub fn report(st: State) -> Report
 {
     let zero = st.zero.alarms(st.setting.zero);
     let span = st.span.alarms(st.setting.span);
+    // `&` and not `&&`, which would part the proof in two at each; the calls have no effect.
     let quiet = silent(zero) & silent(span);
     Report {
         zero,

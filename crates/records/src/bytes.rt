@@ -2,13 +2,6 @@
 ghost use Rattle.std.specs.Prelude.{◌≡◌, ◌+◌, ◌≤◌, ◌<◌, length, take, drop, replicate};
 ghost use Rattle.records.specs.Bytes.{all_zero, bytes16, bytes32, le16, le32, part, written};
 
-// A byte as a length.
-pub fn wide(byte: u8) -> usize
-    ensures { (result ≡ byte) × (result < 256) }
-{
-    usize::from(byte)
-}
-
 // So many bytes from a place on.
 pub(crate) fn chunk<const N: usize>(bytes: &[u8], at: usize) -> [u8; N]
     requires { at + N ≤ length bytes.now }

@@ -6,7 +6,7 @@ use crate::bytes;
 use crate::state::{Function, Setting, Waiting};
 use calibration::{Actual, Conditions, Pair, Requirements, Standard};
 
-// A signed field of four bytes.
+// A signed field of four bytes. The fields are read from a slice, of which no more is asked than the bytes that are read.
 pub fn field_at(r: &[u8], at: usize) -> i32
     requires { at + 4 ≤ length r.now }
     ensures { result ≡ field r.now at }
