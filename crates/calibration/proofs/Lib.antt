@@ -7,6 +7,7 @@ pub mod StandardBound
 pub mod ResidualLaws
 pub mod LentListLaws
 pub mod SumLaws
+pub mod SlopeLaws
 pub mod OrderLaws
 pub mod SampleLaws
 pub mod OutcomeLaws

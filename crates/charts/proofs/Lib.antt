@@ -1,4 +1,5 @@
 pub mod RoundingLaws
+pub mod ApartLaws
 pub mod RoundingCases
 pub mod StandingLaws
 pub mod ChartLaws
