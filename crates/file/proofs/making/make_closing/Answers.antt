@@ -1,22 +1,22 @@
 -- `making::make_closing` meets its contract: one law for each row that stops it, one for a record's, one for the closing's own, and one for the closing made.
-use Rattle.std.proofs.Common.{◌≡◌, ◌≤◌, ◌<◌, ◌/◌, ◌||◌, true, eqb, length, refl, sym, ap, ◌∙◌, subst, arith, rules}
+use Rattle.std.proofs.Common.{◌≡◌, ◌≤◌, ◌/◌, ◌||◌, true, eqb, length, refl, sym, ap, ◌∙◌, subst, arith, rules}
 use Rattle.std.proofs.lemmas.Result.{err_from_is_err_and}
-use Rattle.std.specs.Prelude.{List, ℕ, zero, suc, MatchResult, Result, Ok, Err, Some}
+use Rattle.std.specs.Prelude.{List, ℕ, IfOk, MatchResult, Result, Ok, Err, Some}
 use Rattle.refusals.specs.declared.Refusal.{Refusal}
 use Rattle.refusals.specs.Rows.{number_of, outcome_of}
 use Rattle.records.specs.Soundness.{Sound}
 use Rattle.records.specs.State.{facts_of}
 use Rattle.records.specs.declared.state.State.{State}
-use Rattle.file.specs.Answered.{Appended, PlaceOfTwelve, index_of, ran_of}
+use Rattle.file.specs.Answered.{Appended, index_of, ran_of}
 use Rattle.file.specs.Calls.{opened, ready_of}
-use Rattle.file.specs.Closings.{Made, closing_of, closing_refusal, kept, made, made_by, make_of}
+use Rattle.file.specs.Closings.{closing_of, closing_refusal, made, make_of}
 use Rattle.file.specs.FitLaws.{fit_size, opened_ready}
 use Rattle.file.specs.Taking.{records_fit}
 use Rattle.file.specs.declared.Refused.{Refused}
 use Rattle.file.proofs.ClosingLaws as L
 use Rattle.file.proofs.OutcomeLaws.{some_row}
 use Rattle.file.proofs.making.make_closing.Goals as goal
-use Rattle.file.proofs.making.make_closing.Goals.{After-map_err, Else-not-closes, Else-not-ready, Else-not-records_fit, In_ok-before, Start}
+use Rattle.file.proofs.making.make_closing.Goals.{After-map_err, Else-not-closes, Else-not-ready, Else-not-records_fit, In_err-record, In_ok-before, In_ok-record, Start}
 
 -- what a passed row tells
 fits : (c : Else-not-records_fit) → records_fit 0 11 (length c.args.bytes.now) ≡ true
@@ -130,34 +130,30 @@ returns-in_err-before-clause-target_after c =
 
 pub close-requires : goal.close-requires
 close-requires c =
-    let a = c.args in (
-      c.if-target-ne40.false,
-      subst (Sound 4000000000) (sym (after (goal.at.close-requires c).In_ok-before))
-          (L.before_sound a.st a.edition a.bytes.now (search rules) (omega (arith, few (goal.at.close-requires c).Else-not-records_fit)) (sound (goal.at.close-requires c).Else-not-ready)),
-    )
+    let a = c.args in
+    let g = goal.at.close-requires c in
+    subst (Sound 4000000000) (sym (after g.In_ok-before))
+    (L.before_sound a.st a.edition a.bytes.now (search rules) (omega (arith, few g.Else-not-records_fit)) (sound g.Else-not-ready))
 
 pub overflow_cast-place : goal.overflow_cast-place
 overflow_cast-place c = record { fits = omega (arith, few (goal.at.overflow_cast-place c).Else-not-records_fit) }
 
 -- what the last call answers: made, or its row at the place past the records
-module _ (r : Result (Unit {0}) Refusal) (x : Result (Unit {0}) Refused) (place : ℕ) where
-  abbrev Told : Type 0
-  Told = MatchResult r (λ u. x ≡ Ok u) (λ e. x ≡ Err (record { row = e; place = Some place }))
+module _ {A : Type 0} (r : Result A Refusal) (place : ℕ) where
+  abbrev Told : Result A Refused → Type 0
+  Told x = MatchResult r (λ a. x ≡ Ok a) (λ e. x ≡ Err (record { row = e; place = Some place }))
 
-value_by : (r : Result (Unit {0}) Refusal) (x : Result (Unit {0}) Refused) (place : ℕ) (m : Made) → Told r x place
-    → (outcome_of r ≡ 0 → m ≡ made 0 255) → ((outcome_of r ≡ 0 → ⊥) → m ≡ made (outcome_of r) place) → made_by x ≡ m
-value_by (Ok u) x place m h f g = ap made_by h ∙ sym (f refl)
-value_by (Err e) x place m h f g = ap made_by h ∙ sym (g (some_row e))
+ok_of : {A : Type 0} (r : Result A Refusal) (place : ℕ) (a : A) → Told r place (Ok a) → r ≡ Ok a
+ok_of (Ok b) place a h = let q : a ≡ b = cc in ap Ok (sym q)
+ok_of (Err e) place a h = absurd (cc)
 
-place_by : (r : Result (Unit {0}) Refusal) (x : Result (Unit {0}) Refused) (place : ℕ) → Told r x place → place < 12 → PlaceOfTwelve x
-place_by (Ok u) x place h l = subst PlaceOfTwelve (sym h) tt
-place_by (Err e) x place h l = subst PlaceOfTwelve (sym h) l
+err_of : {A : Type 0} (r : Result A Refusal) (place : ℕ) (x : Refused) → Told r place (Err x) → (number_of x.row ≡ outcome_of r) × (x.place ≡ Some place)
+err_of (Ok b) place x h = absurd (cc)
+err_of (Err e) place x h =
+    let q : x ≡ record { row = e; place = Some place } = cc in
+    (ap (λ (y : Refused). number_of y.row) q, ap (λ (y : Refused). y.place) q)
 
-bytes_by : (n : ℕ) (t new old end : List ℕ) → t ≡ kept n new old → (n ≡ 0 → new ≡ end) → ((n ≡ 0 → ⊥) → old ≡ end) → t ≡ end
-bytes_by zero t new old end e f g = e ∙ f refl
-bytes_by (suc n) t new old end e f g = let o : suc n ≡ 0 → ⊥ = λ z. omega arith in e ∙ sym (L.kept_old (suc n) new old o) ∙ g o
-
-told : (c : After-map_err) → Told c.close.result c.map_err.result (length c.args.bytes.now / 40)
+told : (c : After-map_err) → Told c.close.result (length c.args.bytes.now / 40) c.map_err.result
 told c = search rules
 
 -- the closing's own row, after the records before it
@@ -165,7 +161,7 @@ own : (c : After-map_err) → let a = c.args.closing in
     outcome_of c.close.result ≡ closing_refusal (facts_of (ran_of (opened c.args.st c.args.edition) c.args.bytes.now).state) a.kind a.minute a.z
 own c =
     let a = c.args.closing in
-    c.close.ensures.value ∙ ap (λ (s : State). closing_refusal (facts_of s) a.kind a.minute a.z) (after (goal.at.After-map_err c).In_ok-before)
+    c.close.ensures.row ∙ ap (λ (s : State). closing_refusal (facts_of s) a.kind a.minute a.z) (after (goal.at.After-map_err c).In_ok-before)
 
 made_is : (c : After-map_err) → outcome_of c.close.result ≡ 0 → let a = c.args in make_of a.st a.edition a.bytes.now a.closing.kind a.closing.minute a.closing.z (length a.target.now) ≡ made 0 255
 made_is c =
@@ -177,22 +173,55 @@ stopped_is c =
     let a = c.args in
     L.closing_stops a.st a.edition a.bytes.now a.closing.kind a.closing.minute a.closing.z _ c.if-target-ne40.false (fits (goal.at.After-map_err c).Else-not-records_fit) (closes (goal.at.After-map_err c).Else-not-closes) (sound (goal.at.After-map_err c).Else-not-ready) (sym c.in_ok-told.ensures) (accepted (goal.at.After-map_err c).In_ok-before) (outcome_of c.close.result) (own c)
 
-pub returns-clause-value : goal.returns-clause-value
-returns-clause-value c =
-    let d = (goal.at.returns-clause-value c).After-map_err in
-    value_by c.close.result c.map_err.result _ _ (told d) (made_is d) (stopped_is d)
+-- refused by that row
+record Stopped (n place : ℕ) (x : Refused) : Type 0 where
+  row : number_of x.row ≡ n
+  place_is : x.place ≡ Some place
+  some : n ≡ 0 → ⊥
 
-pub returns-clause-place : goal.returns-clause-place
-returns-clause-place c =
-    let d = (goal.at.returns-clause-place c).After-map_err in
-    place_by c.close.result c.map_err.result _ (told d) (omega (arith, few (goal.at.returns-clause-place c).Else-not-records_fit))
+stopped : (c : In_err-record) → Stopped (outcome_of c.close.result) (length c.args.bytes.now / 40) c.in_err-record.field-0.0
+stopped c =
+    let x = c.in_err-record.field-0.0 in
+    let e = err_of c.close.result _ x (subst (Told c.close.result _) c.in_err-record.was (told (goal.at.In_err-record c).After-map_err)) in
+    record { row = e.0; place_is = e.1; some = λ z. some_row x.row (e.0 ∙ z) }
+
+-- or made
+closing_ok : (c : In_ok-record) → c.close.result ≡ Ok c.in_ok-record.record
+closing_ok c = ok_of c.close.result _ c.in_ok-record.record (subst (Told c.close.result _) c.in_ok-record.was (told (goal.at.In_ok-record c).After-map_err))
+
+closing_made : (c : In_ok-record) → let a = c.args in make_of a.st a.edition a.bytes.now a.closing.kind a.closing.minute a.closing.z (length a.target.now) ≡ made 0 255
+closing_made c = made_is (goal.at.In_ok-record c).After-map_err (ap outcome_of (closing_ok c))
+
+pub returns-in_err-record-clause-value : goal.returns-in_err-record-clause-value
+returns-in_err-record-clause-value c =
+    let g = goal.at.returns-in_err-record-clause-value c in
+    let s = stopped g.In_err-record in
+    let p = err_from_is_err_and c.from_residual-in_err-record.result c.from_residual-in_err-record.ensures.1 in
+    rw (p.1, p.2) (rw (s.row, s.place_is) (sym (stopped_is g.After-map_err s.some)))
+
+pub returns-in_err-record-clause-place : goal.returns-in_err-record-clause-place
+returns-in_err-record-clause-place c =
+    let g = goal.at.returns-in_err-record-clause-place c in
+    let s = stopped g.In_err-record in
+    let p = err_from_is_err_and c.from_residual-in_err-record.result c.from_residual-in_err-record.ensures.1 in
+    rw (p.1, p.2) (rw s.place_is (omega (arith, few g.Else-not-records_fit)))
+
+pub returns-in_err-record-clause-target_after : goal.returns-in_err-record-clause-target_after
+returns-in_err-record-clause-target_after c =
+    let a = c.args in
+    let g = goal.at.returns-in_err-record-clause-target_after c in
+    let s = stopped g.In_err-record in
+    L.bytes_kept a.st a.edition a.bytes.now a.closing.kind a.closing.minute a.closing.z a.target.now _ (stopped_is g.After-map_err s.some) s.some
+
+pub returns-clause-value : goal.returns-clause-value
+returns-clause-value c = sym (closing_made (goal.at.returns-clause-value c).In_ok-record)
 
 pub returns-clause-target_after : goal.returns-clause-target_after
 returns-clause-target_after c =
     let a = c.args in
-    let d = (goal.at.returns-clause-target_after c).After-map_err in
-    bytes_by (outcome_of c.close.result) c.close.new.target _ a.target.now _ c.close.ensures.target_after
-    (λ z.
-    ap (λ (s : State). closing_of (facts_of s) a.closing.kind a.closing.minute a.closing.z) (after (goal.at.returns-clause-target_after c).In_ok-before)
-    ∙ L.bytes_made a.st a.edition a.bytes.now a.closing.kind a.closing.minute a.closing.z a.target.now _ (made_is d z) refl)
-    (λ n. L.bytes_kept a.st a.edition a.bytes.now a.closing.kind a.closing.minute a.closing.z a.target.now _ (stopped_is d n) n)
+    let k = a.closing in
+    let g = goal.at.returns-clause-target_after c in
+    c.copy_from_slice.ensures.after
+    ∙ subst (λ (r : Result (List ℕ) Refusal). IfOk r (λ bytes. bytes ≡ closing_of (facts_of c.in_ok-before.before) k.kind k.minute k.z)) (closing_ok g.In_ok-record) c.close.ensures.bytes
+    ∙ ap (λ (s : State). closing_of (facts_of s) k.kind k.minute k.z) (after g.In_ok-before)
+    ∙ L.bytes_made a.st a.edition a.bytes.now k.kind k.minute k.z a.target.now _ (closing_made g.In_ok-record) refl
