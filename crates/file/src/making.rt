@@ -108,7 +108,8 @@ fn close(st: State, closing: Closing) -> Result<[u8; 40], Refusal>
     Ok(annual_bytes(verdicts, st.pending, closing.minute))
 }
 
-// Making a closing for a block of the edition told into the target, with any state, any edition, any bytes, any closing and any target.
+// Making a closing for a block of the edition told into the target, with any state, any edition, any bytes, any closing and any target. State and edition
+// stay two, as in `append`.
 pub fn make_closing(
     st: State,
     edition: u8,
