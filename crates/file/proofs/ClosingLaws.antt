@@ -1,12 +1,14 @@
 -- Making a closing, part by part: its bytes, its rows, and the call.
-use Rattle.std.specs.Prelude.{◌≡◌, Bool, true, false, not, ◌||◌, eqb, ℤ, pos, neg_ℤ, if◌then◌else◌}
+use Rattle.std.specs.Prelude.{◌≡◌, Bool, true, false, not, ◌||◌, eqb, ℤ, pos, neg_ℤ, if◌then◌else◌, None, Result, Err, IfSome}
 use Rattle.std.proofs.Math.Path.{refl, sym, ap}
 use Rattle.std.proofs.Common.{subst, ◌∙◌, arith}
 use mathlib.Core.List.{List, ◌++◌, append_assoc}
-use Prim.Native.Nat.{ℕ, ◌+◌, ◌/◌, ◌≤◌}
+use Prim.Native.Nat.{ℕ, ◌+◌, ◌/◌, ◌≤◌, ◌<◌}
 use borrow.Author.Tests.{eq-eqb, ne_eqb, eqb-true, eqb-false, not-false}
 use Rattle.std.proofs.Math.Dec.{ltb}
 use Rattle.std.proofs.Math.ListN.{length, replicate, length-append}
+use Rattle.refusals.specs.Rows.{number_of}
+use Rattle.refusals.specs.declared.Refusal.{Refusal}
 use Rattle.charts.specs.Tests.{if_yes, if_no}
 use Rattle.calibration.specs.Pairs.{ZRanged, between_answers}
 use Rattle.calibration.specs.Outcomes.{Fitted, Tested}
@@ -26,8 +28,10 @@ use Rattle.file.specs.FitLaws.{opened_pairs, opened_ready}
 use Rattle.file.specs.FitLaws.{ready_fit, within_none, within_ran}
 use Rattle.file.proofs.CallsLaws.{records_length}
 use Rattle.file.proofs.ZeroLaws.{zeros_stay}
-use Rattle.file.specs.Answered.{ran_of}
-use Rattle.file.specs.Closings.{Made, head_of, figures_of, first_rows, z_fits, unsigned32, unsigned64, bytes64, calibration_record, annual_record, closing_of, closing_refusal, made, closed, ran_before, make_of, made_bytes}
+use Rattle.file.specs.Answered.{PlaceOfTwelve, index_of, ran_of}
+use Rattle.file.specs.declared.Refused.{Refused}
+use Rattle.file.proofs.OutcomeLaws.{some_row}
+use Rattle.file.specs.Closings.{Made, head_of, figures_of, first_rows, z_fits, unsigned32, unsigned64, bytes64, calibration_record, annual_record, closing_of, closing_refusal, made, made_by, closed, ran_before, make_of, made_bytes}
 
 -- ---- the forty bytes
 
@@ -370,3 +374,28 @@ module _ (st : State) (edition : ℕ) (bytes : List ℕ) (kind minute : ℕ) (z 
   pub bytes_made : x.refusal ≡ 0 → closing_of (facts_of (ran_of (opened st edition) bytes).state) kind minute z ≡ made_bytes st edition bytes kind minute z old
   unfolding made_bytes ran_before ran_of
   bytes_made n = rw (e, eq-eqb x.refusal 0 n)
+
+-- ---- a refused call: every clause of its answer
+
+module _ (st : State) (edition : ℕ) (bytes : List ℕ) (kind minute : ℕ) (z : ℤ) (old : List ℕ) (result : Result (Unit {0}) Refused) where
+  abbrev pub Told : Type 0
+  Told = record {
+    value : made_by result ≡ make_of st edition bytes kind minute z (length old);
+    place : PlaceOfTwelve result;
+    target_after : old ≡ made_bytes st edition bytes kind minute z old;
+  }
+
+  module _ (x : Refused) (r : result ≡ Err x) where
+    -- by the row of a record, or the closing's own
+    pub record_told : (n index : ℕ) → number_of x.row ≡ n → index_of x.place ≡ index → IfSome x.place (λ place. place < 12)
+        → make_of st edition bytes kind minute z (length old) ≡ made n index → Told
+    record_told n index e f p g =
+        rw r (record {
+          value = rw (e, f) (sym g);
+          place = p;
+          target_after = bytes_kept st edition bytes kind minute z old _ g (λ w. some_row x.row (e ∙ w));
+        })
+
+    -- by another
+    pub row_told : (row : Refusal) → x ≡ record { row = row; place = None } → make_of st edition bytes kind minute z (length old) ≡ made (number_of row) 255 → Told
+    row_told row e g = record_told (number_of row) 255 (ap (λ (y : Refused). number_of y.row) e) (ap (λ (y : Refused). index_of y.place) e) (rw e tt) g
