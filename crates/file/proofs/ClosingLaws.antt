@@ -40,7 +40,7 @@ unfolding bytes64
 bytes64_length n = simp (length-append, bytes32_length)
 
 pub head_length : (kind mark minute : ℕ) → length (head_of kind mark minute) ≡ 8
-head_length k m n = simp (length-append, bytes32_length)
+head_length k m n = simp bytes32_length
 
 pub figures_length : (c : Fitted) → length (figures_of c) ≡ 20
 unfolding figures_of
