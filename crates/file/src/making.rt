@@ -68,6 +68,7 @@ fn closes(kind: u8) -> bool
 }
 
 // Z in its range for a calibration, 0 for an annual test.
+#[tactic(auto, using(crate::proofs::SignedLaws::zero_same), unfolding(crate::specs::Closings::z_fits))]
 fn z_fits(kind: u8, z: i32) -> bool
     ensures { result ≡ z_fits kind z }
 {
@@ -78,6 +79,7 @@ fn z_fits(kind: u8, z: i32) -> bool
 }
 
 // Rows 11, 12 and 13.
+#[tactic(auto, unfolding(crate::specs::Closings::first_rows, records::specs::State::facts_of))]
 fn first_rows(st: State, closing: Closing) -> Result<(), Refusal>
     ensures { outcome_of result ≡ first_rows (facts_of st) closing.kind closing.minute closing.z }
 {
