@@ -119,6 +119,10 @@ head_of kind mark minute = (kind ∷ mark ∷ 0 ∷ 0 ∷ []) ++ bytes32 minute
 unfoldable pub figures_of : Fitted → List ℕ
 figures_of c = bytes32 (unsigned32 c.line.slope) ++ bytes64 (unsigned64 c.line.intercept) ++ bytes32 (unsigned32 c.top.0) ++ bytes32 c.count
 
+-- the new bytes where nothing was refused, else the old ones
+abbrev pub kept : ℕ → List ℕ → List ℕ → List ℕ
+kept refusal new old = if eqb refusal 0 then new else old
+
 -- rows 11, 12 and 13 of a closing, 0 where none stops it
 unfoldable pub first_rows : Facts → ℕ → ℕ → ℤ → ℕ
 first_rows f kind minute z =
