@@ -268,6 +268,15 @@ module _ (f : Facts) (r : Record) where
 minute_small : (f : Facts) (m : ℕ) → (ltb m f.minute || ltb 100000000 m) ≡ false → m ≤ 100000000
 minute_small f m h = ltb_no (or_no (ltb m f.minute) (ltb 100000000 m) (subst (λ (b : Bool). T (not b)) (sym h) tt)).1
 
+-- a closing that passes the first rows is in place and in time
+closing_passes : (f : Facts) (r : Record) (k told m : ℕ) (z : ℤ) → first_rows f told m z ≡ 0 → kind r ≡ k → (k ≡ 1 → ⊥) → (m < 4294967296 → minute r ≡ m) → formed_of r ≡ true
+    → ranged_of r ≡ true
+    → kind_refusal f r ≡ 0
+    → refusal_in f r ≡ 0
+closing_passes f r k told m z h e n i a d g =
+    let t = passed_time f told m z h in
+    none_refuses f r a (placed f r (passed_begun f told m z h) (not_one r k e n)) (timely f r m (i (omega (arith, minute_small f m t))) t) d g
+
 -- ---- the theorem
 
 module _ (m : ℕ) (st : State) (S : Sound m st) (minute : ℕ) (z : ℤ) where
@@ -277,14 +286,11 @@ module _ (m : ℕ) (st : State) (S : Sound m st) (minute : ℕ) (z : ℤ) where
       let f = facts_of st in
       let c = calibration_of f z in
       let r = calibration_record c minute z in
-      let b = passed_begun f 5 minute z h in
-      let t = passed_time f 5 minute z h in
       let Z = z_in_range 5 z refl (passed_z f 5 minute z h) in
       let k = calibration_kind c minute z in
       let y = calibration_z c minute z (between_fits tt Z) in
-      let F = stored m st z S (begun_setting m st b S) Z e in
-      none_refuses f r (calibration_formed c minute z) (placed f r b (not_one r 5 k (λ q. omega arith)))
-      (timely f r minute (calibration_minute c minute z (omega (arith, minute_small f minute t))) t)
+      let F = stored m st z S (begun_setting m st (passed_begun f 5 minute z h) S) Z e in
+      closing_passes f r 5 5 minute z h k (λ q. omega arith) (calibration_minute c minute z) (calibration_formed c minute z)
       (calibration_ranged f r k (ap z_ranged_of y ∙ T_true _ ((between_answers (neg_ℤ (pos 10000)) (pos 10000) z).back Z)))
       (calibration_kind_passes f r k z y e (calibration_stores c minute z F))
 
@@ -294,11 +300,8 @@ module _ (m : ℕ) (st : State) (S : Sound m st) (minute : ℕ) (z : ℤ) where
       let f = facts_of st in
       let n = length f.pending in
       let r = annual_record (annual_of f) n minute in
-      let b = passed_begun f kind minute z h in
-      let t = passed_time f kind minute z h in
       let k = annual_kind (annual_of f) n minute in
-      none_refuses f r (annual_formed (annual_of f) n minute) (placed f r b (not_one r 6 k (λ q. omega arith)))
-      (timely f r minute (annual_minute (annual_of f) n minute (omega (arith, minute_small f minute t))) t)
+      closing_passes f r 6 kind minute z h k (λ q. omega arith) (annual_minute (annual_of f) n minute) (annual_formed (annual_of f) n minute)
       (annual_ranged f r k)
       (annual_kind_passes f r k e (annual_stores (annual_of f) n minute (waiting_few m st S)))
 

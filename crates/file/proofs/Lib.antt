@@ -3,6 +3,7 @@ pub mod CheckFill
 pub mod CheckTen
 pub mod CheckLoop
 pub mod TakeLaws
+pub mod ZeroLaws
 pub mod SignedLaws
 pub mod OutcomeLaws
 pub mod TakingLaws

@@ -11,3 +11,4 @@ pub mod FitLaws
 pub mod Statement
 pub mod Answered
 pub mod Closings
+pub mod Messages
