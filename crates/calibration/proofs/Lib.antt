@@ -8,6 +8,8 @@ pub mod ResidualLaws
 pub mod LentListLaws
 pub mod SumLaws
 pub mod OrderLaws
+pub mod WideLaws
+pub mod RegressionLaws
 pub mod SampleLaws
 pub mod OutcomeLaws
 pub mod GatheredLaws

@@ -43,12 +43,12 @@ returns-then-beyond c =
     sym (test_beyond c.args.b.edition c.args.b.requirements c.args.l c.args.pairs.now (sym c.annual_count_fits.ensures ∙ c.if-not-annual_count_fits.false) (sym c.beyond.ensures ∙ c.if-beyond.true))
 
 pub invariant_of-sample : goal.invariant_of-sample
-invariant_of-sample c = record { few = c.requires.0; ranged = all_tested c.args.pairs.now c.requires.1; required = required_tested c.args.b.requirements c.requires.2 }
+invariant_of-sample c =
+    let n = counted c.args.b c.args.l c.args.pairs.now (sym c.annual_count_fits.ensures ∙ c.if-not-annual_count_fits.false) in
+    record { some = omega (arith, n); few = c.requires.0; ranged = all_tested c.args.pairs.now c.requires.1; required = required_tested c.args.b.requirements c.requires.2 }
 
 pub residuals-r-requires : goal.residuals-r-requires
-residuals-r-requires c =
-    let n = counted c.args.b c.args.l c.args.pairs.now (sym c.annual_count_fits.ensures ∙ c.if-not-annual_count_fits.false) in
-    (omega (arith, n), c.requires.3, sym c.beyond.ensures ∙ c.if-beyond.false)
+residuals-r-requires c = (c.requires.3, sym c.beyond.ensures ∙ c.if-beyond.false)
 
 pub dispersion-dispersed-requires : goal.dispersion-dispersed-requires
 dispersion-dispersed-requires c =

@@ -7,7 +7,7 @@ use lib.IntN.{nat_abs, ◌*ℤ◌}
 use mir.Syntax.{w64}
 use mir.Facts.{to_z-of_z}
 use Rattle.charts.specs.Integers.{abs_prod, abs_sfits}
-use Rattle.charts.specs.SignedLocals.{Loc, arg, mul, mul_need}
+use Rattle.charts.specs.SignedLocals.{Loc, arg, mul}
 use Rattle.calibration.proofs.times.Goals as goal
 use Rattle.calibration.proofs.times.Goals.{Start}
 

@@ -1,8 +1,5 @@
 -- `calibration::Sample::fitted_value` meets its contract.
-use Rattle.std.proofs.Common.{ap, ◌∙◌, to_z-of_z, w32}
-use Rattle.std.specs.Prelude.{ℤ}
-use mir.Val.{to_z, of_z}
-use Rattle.calibration.specs.Calibration.{value_of}
+use Rattle.std.proofs.Common.{to_z-of_z, w32}
 use Rattle.calibration.specs.PairLaws.{between_fits, oxygen_reads}
 use Rattle.calibration.proofs.SampleLaws.{required}
 use Rattle.calibration.proofs.Sample.fitted_value.Goals as goal

@@ -26,12 +26,12 @@ module _ (b : Basis) (l : Line) (ps : List Pair) (P : 0 < length ps) (N : length
 
 pub dispersion-requires : goal.dispersion-requires
 dispersion-requires c =
-    let s = spread c.args.self.basis c.args.l c.args.self.pairs.now c.requires.0 c.args.self.few (sym c.beyond.ensures ∙ c.if-beyond.false) c.residuals-r.ensures in
+    let s = spread c.args.self.basis c.args.l c.args.self.pairs.now c.args.self.some c.args.self.few (sym c.beyond.ensures ∙ c.if-beyond.false) c.residuals-r.ensures in
     (c.args.self.few, s.sum, s.squares, s.above)
 
 pub top-requires : goal.top-requires
 top-requires c =
-    let s = spread c.args.self.basis c.args.l c.args.self.pairs.now c.requires.0 c.args.self.few (sym c.beyond.ensures ∙ c.if-beyond.false) c.residuals-r.ensures in
+    let s = spread c.args.self.basis c.args.l c.args.self.pairs.now c.args.self.some c.args.self.few (sym c.beyond.ensures ∙ c.if-beyond.false) c.residuals-r.ensures in
     (s.most, rw (limit (required c.args.self.basis.requirements c.args.self.required)) (required c.args.self.basis.requirements c.args.self.required).limit)
 
 pub returns : goal.returns
@@ -40,7 +40,7 @@ returns c =
     let ps = c.args.self.pairs.now in
     let near = sym c.beyond.ensures ∙ c.if-beyond.false in
     let R = c.residuals-r.ensures in
-    let s = spread b c.args.l ps c.requires.0 c.args.self.few near R in
+    let s = spread b c.args.l ps c.args.self.some c.args.self.few near R in
     line_stands b.edition b.requirements ps c.args.l (length ps) c.dispersion.result (nat_abs b.requirements.uncertainty) near refl (c.dispersion.ensures ∙ s.is) (sigma_is (required c.args.self.basis.requirements c.args.self.required))
     c.varied.result (c.varied.ensures ∙ rw (sigma_reads (required c.args.self.basis.requirements c.args.self.required), c.k_factor.ensures.0))
     c.top.result

@@ -1,7 +1,5 @@
 -- `calibration::Sample::measured` meets its contract.
-use Rattle.std.proofs.Common.{ap, ◌∙◌, arith}
-use Rattle.std.specs.Prelude.{ℤ}
-use Rattle.calibration.specs.Conditions.{standard_of}
+use Rattle.std.proofs.Common.{arith}
 use Rattle.calibration.specs.PairLaws.{between_abs, oxygen_reads}
 use Rattle.calibration.proofs.SampleLaws.{required}
 use Rattle.calibration.proofs.Sample.measured.Goals as goal
