@@ -51,7 +51,8 @@ pub fn near(edition: u8, n: i64, d: i64) -> i64
     ensures { result ≡ near_of edition n d }
 {
     let p = divide(n, d);
-    if rounds_up(edition, p.whole % 2 != 0, p.rest as u64, d as u64) {
+    let odd = p.whole % 2 != 0;
+    if rounds_up(edition, odd, p.rest.cast_unsigned(), d.cast_unsigned()) {
         return p.whole + 1;
     }
     p.whole
@@ -120,11 +121,11 @@ fn adjustment(edition: u8, u: Sum, s: u16) -> u64
     requires { (u.count ≤ 100000) × (u.value ≤ 800000000 * u.count) }
     ensures { result ≡ adjustment_of edition s u }
 {
-    let t = s as u64;
+    let t = u64::from(s);
     if u.value <= 2850 * t {
         return 0;
     }
-    let n = u.count as u64;
+    let n = u64::from(u.count);
     near_unsigned(edition, 7 * (501 * t * n + u.value), 10000 * n)
 }
 
@@ -133,7 +134,7 @@ fn raised(d: i32) -> u64
     requires { Ranged d }
     ensures { (pos result ≡ d +ℤ pos 800000) × (result ≤ 1200000) }
 {
-    (d as i64 + 800000) as u64
+    (i64::from(d) + 800000).cast_unsigned()
 }
 
 // A chart that was never reset.
@@ -164,7 +165,7 @@ impl Chart {
     {
         let x = raised(d);
         let step = x.abs_diff(raised(self.last));
-        let q = s as u64;
+        let q = u64::from(s);
         let slack = 501 * q;
         let rising = add(self.rising, 1000 * x, 800000000 + slack);
         let falling = add(self.falling, 800000000, 1000 * x + slack);
@@ -185,7 +186,7 @@ impl Chart {
     pub fn alarms(self, s: u16) -> Alarms
         ensures { result ≡ alarms_of self s }
     {
-        let q = s as u64;
+        let q = u64::from(s);
         let drift = 2850 * q;
         let spread = 138 * (q * q);
         Alarms {
@@ -221,7 +222,7 @@ fn within(u: Sum, most: u64, readings: u32) -> bool
     requires { (most ≤ 14400000000000) × (readings ≤ 100000) }
     ensures { result ≡ within_of most readings u }
 {
-    u.count <= readings && u.value <= most * (u.count as u64)
+    u.count <= readings && u.value <= most * u64::from(u.count)
 }
 
 // The difference of a reading and its reference.

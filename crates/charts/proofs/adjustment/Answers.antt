@@ -10,4 +10,6 @@ returns-then-u-t c = simp (le-ltb (drift_limit c.args.s) c.args.u.value (omega a
 
 pub returns : goal.returns
 unfolding adjustment_of
-returns c = simp (lt-ltb (drift_limit c.args.s) c.args.u.value (omega arith)) (ap nat_abs c.near_unsigned.ensures)
+returns c =
+    let e = rw (c.from-t.ensures, c.from-n.ensures) at c.near_unsigned.ensures in
+    simp (lt-ltb (drift_limit c.args.s) c.args.u.value (omega arith)) (ap nat_abs e)

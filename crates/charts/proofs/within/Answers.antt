@@ -6,7 +6,7 @@ use Rattle.charts.proofs.within.Goals as goal
 
 pub returns-then-u-readings : goal.returns-then-u-readings
 unfolding within_of
-returns-then-u-readings c = simp (le-leb _ _ c.if-u-readings.true)
+returns-then-u-readings c = simp (le-leb _ _ c.if-u-readings.true, c.from.ensures)
 
 pub returns-else-u-readings : goal.returns-else-u-readings
 unfolding within_of
