@@ -1,29 +1,11 @@
--- What `from`, `cast_unsigned` and `cast_signed` answer, as the numbers that they stand for.
-use Rattle.std.specs.Prelude.{◌≡◌, refl, Bool, ℕ, ◌^◌, ◌<◌, ℤ, pos, negsuc, ◌≤ℤ◌}
-use Rattle.std.proofs.Common.{ap, ◌∙◌, to_z-of_z}
-use Rattle.std.specs.Int.{Width, w32, w64}
-use mir.Val.{SFits, to_z, of_z, hbits}
-use Rattle.std.proofs.Math.Facts.{to_z_pos}
-use Rattle.charts.specs.SignedLocals.{Loc, lit}
+-- An i32 that is taken as i64 by `from`.
+use Rattle.std.specs.Prelude.{◌≡◌, Bool, ℤ}
+use Rattle.std.proofs.Common.{ap, ◌∙◌}
+use Rattle.std.specs.Int.{w32, w64}
+use mir.Val.{SFits, to_z, of_z}
 use Rattle.calibration.specs.Pairs.{between_of}
 use Rattle.calibration.specs.PairLaws.{wide_between}
 
--- a range test of an i32 that is taken as i64
+-- a range test of it
 pub taken_between : (a b : ℤ) {x z : ℤ} {r : Bool} → SFits w32 z → x ≡ to_z w32 (of_z w32 z) → r ≡ between_of a b (to_z w64 (of_z w64 x)) → r ≡ between_of a b z
 taken_between a b f e t = wide_between a b f (t ∙ ap (λ (v : ℤ). between_of a b (to_z w64 (of_z w64 v))) e)
-
--- a signed local that holds a call's answer
-abbrev pub answer : {w : Width} {x z : ℤ} → x ≡ z → SFits w z → Loc w
-answer {w} {x} {z} e f = record { bits = of_z w x; num = z; reads = ap (λ (v : ℤ). to_z w (of_z w v)) e ∙ to_z-of_z f; fit = f }
-
--- an unsigned number below the sign bit as a signed one
-abbrev pub signed : {w : Width} {x : ℤ} (n : ℕ) → n < 2 ^ hbits w → x ≡ to_z w n → Loc w
-signed {w} n h e = answer (e ∙ to_z_pos w h) (lit {w = w} n h).fit
-
--- a signed number that is not negative as an unsigned one
-bits_of : (w : Width) (z : ℤ) → pos 0 ≤ℤ z → pos (of_z w z) ≡ z
-bits_of w (pos n) h = refl
-bits_of w (negsuc n) h = absurd h.le
-
-pub unsigned : {w : Width} {x : ℕ} (A : Loc w) → pos 0 ≤ℤ A.num → x ≡ of_z w (to_z w A.bits) → pos x ≡ A.num
-unsigned {w} A h e = ap pos (e ∙ ap (of_z w) A.reads) ∙ bits_of w A.num h

@@ -237,6 +237,7 @@ fn plus(u: Sums, p: Pair) -> Sums
     }
 }
 
+#[tactic(auto, using(crate::proofs::OrderLaws::min_is, crate::proofs::OrderLaws::max_is), unfolding(crate::specs::Calibration::widened_of))]
 fn widened(s: Span, v: Standard) -> Span
     ensures { result ≡ widened_of s v }
 {
@@ -358,12 +359,14 @@ fn top(edition: u8, limit: i32, most: Standard) -> Standard
 // ---- verdicts
 
 // The numbers of pairs that a calibration takes, and those of an annual test below, are data, as the factors are.
+#[tactic(auto, using(std::proofs::lemmas::Bool::Decides::nat_tests), unfolding(crate::specs::Calibration::count_fits))]
 pub fn count_fits(n: u32) -> bool
     ensures { result ≡ count_fits n }
 {
     matches!(n, 15..=20 | 25 | 30)
 }
 
+#[tactic(auto, using(std::proofs::lemmas::Bool::Decides::nat_tests), unfolding(crate::specs::Annual::annual_count_fits))]
 fn annual_count_fits(n: u32) -> bool
     ensures { result ≡ annual_count_fits n }
 {
@@ -373,6 +376,7 @@ fn annual_count_fits(n: u32) -> bool
 // Of the factors each has its own table, and so its own function: data, with 0 where there is no row, as in the definitions. The counts are tested before.
 
 // The factor k of a calibration, in ten-thousandths.
+#[tactic(auto, using(std::proofs::lemmas::Bool::Decides::nat_tests), unfolding(crate::specs::Calibration::k_of))]
 fn k_factor(n: u32) -> u32
     ensures { (result ≡ k_of n) × (result ≤ 10000) }
 {
@@ -390,6 +394,7 @@ fn k_factor(n: u32) -> u32
 }
 
 // The factor k of an annual test, in ten-thousandths.
+#[tactic(auto, using(std::proofs::lemmas::Bool::Decides::nat_tests), unfolding(crate::specs::Annual::annual_k_of))]
 fn annual_k_factor(n: u32) -> u32
     ensures { (result ≡ annual_k_of n) × (result ≤ 10000) }
 {
@@ -403,6 +408,7 @@ fn annual_k_factor(n: u32) -> u32
 }
 
 // Student's factor T of an annual test, in thousandths.
+#[tactic(auto, using(std::proofs::lemmas::Bool::Decides::nat_tests), unfolding(crate::specs::Annual::t_of))]
 fn t_factor(n: u32) -> u32
     ensures { (result ≡ t_of n) × (result ≤ 3000) }
 {

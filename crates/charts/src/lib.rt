@@ -28,6 +28,7 @@ pub fn divide(n: i64, d: i64) -> Division
 }
 
 // Whether there is such an edition. It stays a byte: a caller may tell any, and each has its answer.
+#[tactic(auto, using(std::proofs::lemmas::Bool::Decides::nat_tests), unfolding(crate::specs::Rounding::edition_known))]
 pub fn edition_known(edition: u8) -> bool
     ensures { result ≡ edition_known edition }
 {
@@ -102,6 +103,7 @@ pub struct Alarms {
 }
 
 // A term is added to a sum: adds less takes.
+#[tactic(auto, using(crate::specs::CodeLaws::added_none, crate::specs::CodeLaws::added_kept))]
 fn add(u: Sum, adds: u64, takes: u64) -> Sum
     requires { (u.value ≤ 2 ^ 62) × (u.count < 4294967295) × (adds ≤ 2 ^ 62) }
     ensures { result ≡ added u (pos adds -ℤ pos takes) }
@@ -117,6 +119,7 @@ fn add(u: Sum, adds: u64, takes: u64) -> Sum
 }
 
 // The adjustment from a drift sum after a reading, 0 where it shows no alarm.
+#[tactic(auto, using(std::proofs::lemmas::Bool::Decides::nat_tests), unfolding(crate::specs::Charts::adjustment_of))]
 fn adjustment(edition: u8, u: Sum, s: u16) -> u64
     requires { (u.count ≤ 100000) × (u.value ≤ 800000000 * u.count) }
     ensures { result ≡ adjustment_of edition s u }
@@ -183,6 +186,7 @@ impl Chart {
     }
 
     // The three alarms: a sum over its limit, in a chart that is started.
+    #[tactic(auto, unfolding(crate::specs::Charts::alarms_of))]
     pub fn alarms(self, s: u16) -> Alarms
         ensures { result ≡ alarms_of self s }
     {
@@ -218,6 +222,7 @@ pub fn ranged(d: i32) -> bool
 }
 
 // Whether a sum has at most as many terms as there are readings, and a value of at most `most` for each.
+#[tactic(auto, using(std::proofs::lemmas::Bool::Decides::nat_tests), unfolding(crate::specs::Soundness::within_of))]
 fn within(u: Sum, most: u64, readings: u32) -> bool
     requires { (most ≤ 14400000000000) × (readings ≤ 100000) }
     ensures { result ≡ within_of most readings u }

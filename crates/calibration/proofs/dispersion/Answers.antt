@@ -4,7 +4,7 @@ use Rattle.std.specs.Prelude.{ℕ, pos, nat_abs, ◌*ℤ◌}
 use Rattle.charts.specs.Integers.{abs_diff, abs_sfits}
 use Rattle.charts.specs.SignedLocals.{Loc, arg, lit, sub, mul}
 use Rattle.calibration.proofs.FitLaws.{product_size}
-use Rattle.calibration.proofs.WideLaws.{unsigned}
+use Rattle.charts.proofs.CastLaws.{unsigned}
 use Rattle.calibration.specs.declared.Residuals.{Residuals}
 use Rattle.calibration.proofs.dispersion.Goals as goal
 

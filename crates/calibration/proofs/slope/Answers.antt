@@ -13,7 +13,7 @@ use Rattle.calibration.specs.Pairs.{Between, between_of, between_answers}
 use Rattle.calibration.specs.PairLaws.{between_abs, between_fits}
 use Rattle.calibration.specs.Calibration.{slope_ranged_of}
 use Rattle.calibration.specs.CodeLaws.{slope_parts, part_ranged, slope_far, slope_in, slope_out}
-use Rattle.calibration.proofs.WideLaws.{signed, unsigned}
+use Rattle.charts.proofs.CastLaws.{signed, unsigned}
 use Rattle.calibration.proofs.slope.Goals as goal
 
 -- a range test of a local, and what it says where it holds
