@@ -71,7 +71,7 @@ pub struct Line {
     pub intercept: i64,
 }
 
-// N, Σx, Σy, Σxy and Σx². Their range is asked by a clause where it is needed, and is no ghost field: the definitions sum pairs of any range.
+// N, Σx, Σy, Σxy and Σx². Their range is a ghost field of `Regression`, and none here: the definitions sum pairs of any range.
 #[derive(Clone, Copy, Default)]
 pub struct Sums {
     pub n: u32,
@@ -170,7 +170,7 @@ pub fn line_ranged(l: Line) -> bool
 
 // ---- standard conditions and calibrated values
 
-// One factor of formula 20, rounded: near(v·n/d).
+// One factor of formula 20, rounded: near(v·n/d). n and d stay two numbers, and a clause asks the sign of d: a fraction would be made only to be taken apart here.
 fn times(edition: u8, v: i64, n: i64, d: i64) -> i64
     requires { (nat_abs v ≤ 2 ^ 40) × (nat_abs n ≤ 2 ^ 20) × (pos 0 <ℤ d) × (nat_abs d ≤ 2 ^ 20) }
     ensures { result ≡ times_of edition v n d }
@@ -178,7 +178,8 @@ fn times(edition: u8, v: i64, n: i64, d: i64) -> i64
     charts::near(edition, v * n, d)
 }
 
-// The four factors in turn: the only step from analyser conditions to standard conditions.
+// The four factors in turn: the only step from analyser conditions to standard conditions. Casts by `as` narrow numbers that are proved to fit; a TryFrom
+// would answer an error that can't come.
 pub fn standard_conditions(edition: u8, reference: i32, k: Conditions, v: Actual) -> Standard
     requires { OxygenRanged reference × ConditionsRanged k × (nat_abs v.0 ≤ 8000000) }
     ensures { result ≡ standard_of edition reference k v }
@@ -222,6 +223,7 @@ pub fn value(edition: u8, reference: i32, l: Line, k: Conditions, x: i32) -> Sta
 
 // ---- sums over the pairs
 
+// One pair more in the sums. A pair is a public value of any figures, so a clause asks its range; one of a `Sample` is in range.
 fn plus(u: Sums, p: Pair) -> Sums
     requires { SumsRanged u × (u.n < 30) × PairRanged p }
     ensures { result ≡ plus_of u p }
@@ -250,7 +252,8 @@ fn widened(s: Span, v: Standard) -> Span
 // ---- the function
 
 // B, or none where it is outside 1..1,000,000: near(100000·rise/divisor), worked out from the whole part of rise/divisor and its rest. A whole part below
-// -1 or over 10 gives no B in its range (-1 gives none either, but a test against 0 would be one of the sign); the rest times 100000 fits, unsigned.
+// -1 or over 10 gives no B in its range (-1 gives none either, but a test against 0 would be one of the sign); the rest times 100000 fits, unsigned. A clause asks
+// the sign of the divisor: the caller tests it, and a type for it would be made for this call alone.
 fn slope(edition: u8, rise: i64, divisor: i64) -> Option<i32>
     requires { (nat_abs rise ≤ 144000000000000) × (pos 0 <ℤ divisor) × (nat_abs divisor ≤ 144000000000000) }
     ensures { result ≡ slope_code edition rise divisor }
@@ -457,7 +460,7 @@ fn function_holds(n: u32, sum: i64, q: u64, sigma: u32) -> bool
 // ---- outcomes
 
 impl<'a> Sample<'a> {
-    // y' of a pair.
+    // y' of a pair. The pair's range is asked by a clause: a pair is a public value of any figures, and only one of the sample is known to be in range.
     fn measured(self, p: Pair) -> Standard
         requires { PairRanged p }
         ensures { result ≡ measured_of self.entry.basis.edition self.entry.basis.requirements.oxygen p }
@@ -466,7 +469,7 @@ impl<'a> Sample<'a> {
         standard_conditions(b.edition, b.requirements.oxygen, p.conditions, p.srm)
     }
 
-    // c of a pair.
+    // c of a pair, whose range is asked as for y'.
     fn fitted_value(self, l: Line, p: Pair) -> Standard
         requires { LineRanged l × PairRanged p }
         ensures { result ≡ c_of self.entry.basis.edition self.entry.basis.requirements.oxygen l p }
@@ -577,7 +580,7 @@ impl<'a> Sample<'a> {
     }
 }
 
-// The calibration's outcome.
+// The calibration's outcome. The pairs and their basis come side by side, since that is what callers lend; a `Sample` is made of them when the count is known.
 pub fn fit(pairs: &[Pair], b: Basis, z: i32) -> Result<Figures, Refusal>
     requires { (length pairs.now ≤ 30) × AllRanged pairs.now × RequirementsRanged b.requirements × ZRanged z }
     ensures { fitted result ≡ fit_of b.edition b.requirements z pairs.now }
@@ -589,7 +592,7 @@ pub fn fit(pairs: &[Pair], b: Basis, z: i32) -> Result<Figures, Refusal>
     sample.fit_from(z, sample.sums())
 }
 
-// The annual test's outcome, of the function in force.
+// The annual test's outcome, of the function in force. The pairs and their basis come side by side, as for `fit`.
 pub fn annual_test(pairs: &[Pair], b: Basis, l: Line) -> Result<Verdicts, Refusal>
     requires { (length pairs.now ≤ 30) × AllRanged pairs.now × RequirementsRanged b.requirements × LineRanged l }
     ensures { tested result ≡ test_of b.edition b.requirements l pairs.now }
@@ -625,7 +628,7 @@ pub fn all_ranged(pairs: &[Pair]) -> bool
     pairs.iter().all(|p| pair_ranged(*p))
 }
 
-// The calibration's outcome, from a lent list of pairs of any length: the edition, the ranges, the count, then the fit.
+// The calibration's outcome, from a lent list of pairs of any length: the edition, the ranges, the count, then the fit. Pairs and basis come side by side, as for `fit`.
 pub fn fit_list(pairs: &[Pair], b: Basis, z: i32) -> Result<Figures, Refusal>
     ensures { fitted result ≡ fit_list_of b z pairs.now }
 {

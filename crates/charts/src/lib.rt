@@ -15,7 +15,8 @@ pub struct Division {
 }
 
 // The floor and the rest, with no test of a sign. The machine's remainder has the sign of n; with d added it is above 0 and below 2d for either sign,
-// and the quotient is one less for the d that was added.
+// and the quotient is one less for the d that was added. n and d stay two numbers, here and in `near`, and a clause asks the sign of d: both are public functions
+// of any numbers, and a fraction would be made by each caller only to be taken apart.
 pub fn divide(n: i64, d: i64) -> Division
     requires { (nat_abs n ≤ 2 ^ 62) × (pos 0 <ℤ d) × (nat_abs d ≤ 2 ^ 61) }
     ensures { result ≡ division_of n d }
