@@ -61,7 +61,7 @@ struct Sample<'a> {
     ghost some: { 0 < length pairs.now },
     ghost few: { length pairs.now ≤ 30 },
     ghost ranged: { list_all pair_ranged_of pairs.now ≡ true },
-    ghost required: { requirements_ranged_of basis.requirements ≡ true },
+    ghost required: { RequirementsRanged basis.requirements },
 }
 
 // A calibration function: slope B and intercept A. Its range is no ghost field: `line_ranged` asks it of any line, and the definitions make lines of any.

@@ -12,7 +12,7 @@ use Rattle.calibration.specs.declared.Basis.{Basis}
 use Rattle.calibration.specs.declared.Line.{Line}
 use Rattle.calibration.specs.declared.Pair.{Pair}
 use Rattle.calibration.specs.declared.Residuals.{Residuals}
-use Rattle.calibration.proofs.SampleLaws.{all_tested, required_tested}
+use Rattle.calibration.proofs.SampleLaws.{all_tested}
 use Rattle.calibration.proofs.annual_test.Goals as goal
 
 -- ---- the count, the residuals and their sum
@@ -45,7 +45,7 @@ returns-then-beyond c =
 pub invariant_of-sample : goal.invariant_of-sample
 invariant_of-sample c =
     let n = counted c.args.b c.args.l c.args.pairs.now (sym c.annual_count_fits.ensures ∙ c.if-not-annual_count_fits.false) in
-    record { some = omega (arith, n); few = c.requires.0; ranged = all_tested c.args.pairs.now c.requires.1; required = required_tested c.args.b.requirements c.requires.2 }
+    record { some = omega (arith, n); few = c.requires.0; ranged = all_tested c.args.pairs.now c.requires.1; required = c.requires.2 }
 
 pub residuals-r-requires : goal.residuals-r-requires
 residuals-r-requires c = (c.requires.3, sym c.beyond.ensures ∙ c.if-beyond.false)

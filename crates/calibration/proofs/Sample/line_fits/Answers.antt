@@ -11,7 +11,6 @@ use Rattle.calibration.specs.declared.Line.{Line}
 use Rattle.calibration.specs.declared.Pair.{Pair}
 use Rattle.calibration.specs.declared.Requirements.{Requirements}
 use Rattle.calibration.specs.declared.Residuals.{Residuals}
-use Rattle.calibration.proofs.SampleLaws.{required}
 use Rattle.calibration.proofs.Sample.line_fits.Goals as goal
 
 limit : {q : Requirements} → RequirementsRanged q → to_z w32 (of_z w32 q.limit) ≡ q.limit
@@ -32,7 +31,7 @@ dispersion-requires c =
 pub top-requires : goal.top-requires
 top-requires c =
     let s = spread c.args.self.basis c.args.l c.args.self.pairs.now c.args.self.some c.args.self.few (sym c.beyond.ensures ∙ c.if-beyond.false) c.residuals-r.ensures in
-    (s.most, rw (limit (required c.args.self.basis.requirements c.args.self.required)) (required c.args.self.basis.requirements c.args.self.required).limit)
+    (s.most, rw (limit c.args.self.required) c.args.self.required.limit)
 
 pub returns : goal.returns
 returns c =
@@ -41,16 +40,16 @@ returns c =
     let near = sym c.beyond.ensures ∙ c.if-beyond.false in
     let R = c.residuals-r.ensures in
     let s = spread b c.args.l ps c.args.self.some c.args.self.few near R in
-    line_stands b.edition b.requirements ps c.args.l (length ps) c.dispersion.result (nat_abs b.requirements.uncertainty) near refl (c.dispersion.ensures ∙ s.is) (sigma_is (required c.args.self.basis.requirements c.args.self.required))
-    c.varied.result (c.varied.ensures ∙ rw (sigma_reads (required c.args.self.basis.requirements c.args.self.required), c.k_factor.ensures.0))
+    line_stands b.edition b.requirements ps c.args.l (length ps) c.dispersion.result (nat_abs b.requirements.uncertainty) near refl (c.dispersion.ensures ∙ s.is) (sigma_is c.args.self.required)
+    c.varied.result (c.varied.ensures ∙ rw (sigma_reads c.args.self.required, c.k_factor.ensures.0))
     c.top.result
     (c.top.ensures
-    ∙ ap (λ (e : ℤ). top_of b.edition e c.residuals-r.result.most) (limit (required c.args.self.basis.requirements c.args.self.required))
+    ∙ ap (λ (e : ℤ). top_of b.edition e c.residuals-r.result.most) (limit c.args.self.required)
     ∙ ap (λ (r : Residuals). top_of b.edition b.requirements.limit r.most) R)
 
 pub overflow_cast-q : goal.overflow_cast-q
-overflow_cast-q c = sigma_need (required c.args.self.basis.requirements c.args.self.required)
+overflow_cast-q c = sigma_need c.args.self.required
 
 pub varied-requires : goal.varied-requires
 varied-requires c =
-    (omega arith, pairs_of_pairs (length c.args.self.pairs.now) c.args.self.few, sigma_small (required c.args.self.basis.requirements c.args.self.required), c.k_factor.ensures.1)
+    (omega arith, pairs_of_pairs (length c.args.self.pairs.now) c.args.self.few, sigma_small c.args.self.required, c.k_factor.ensures.1)
