@@ -547,7 +547,7 @@ impl<'a> Sample<'a> {
             passed: varied(
                 100000000,
                 n * (n - 1),
-                q.uncertainty as u32,
+                q.uncertainty.cast_unsigned(),
                 k_factor(n),
                 dispersion(n, r),
             ),
@@ -607,7 +607,7 @@ pub fn annual_test(pairs: &[Pair], b: Basis, l: Line) -> Result<Verdicts, Refusa
     }
     let r = sample.residuals(l);
     let dispersed = dispersion(n, r);
-    let sigma = b.requirements.uncertainty as u32;
+    let sigma = b.requirements.uncertainty.cast_unsigned();
     Ok(Verdicts {
         variability: varied(
             400000000,

@@ -42,20 +42,23 @@ module _ (edition : ℕ) {rise divisor whole rest : ℤ} (Q : (nat_abs rise ≤ 
   divisor-is : {y : ℕ} → y ≡ of_z w64 (to_z w64 (of_z w64 divisor)) → pos y ≡ divisor
   divisor-is e = unsigned (arg {w = w64} divisor (abs_sfits (omega (arith, Q.2)))) (ud_le (omega (arith, lt_ud Q.1))) e
 
-  -- what the rest gives
-  part-is : {x y r : ℕ} → x ≡ of_z w64 (to_z w64 (of_z w64 rest)) → y ≡ of_z w64 (to_z w64 (of_z w64 divisor)) → pos r ≡ near_of edition (pos (100000 * x)) (pos y)
-      → pos r ≡ near_of edition (pos 100000 *ℤ rest) divisor
-  part-is {x} {y} X Y N = N ∙ ap (λ (z : ℤ). near_of edition (pos 100000 *ℤ z) (pos y)) (rest-is X) ∙ ap (near_of edition (pos 100000 *ℤ rest)) (divisor-is Y)
+  -- what the rest gives, and B
+  module _ {x y r : ℕ} {s : ℤ} {t : Bool} (F : SFits w64 whole) (T : t ≡ between_of (neg_ℤ (pos 1)) (pos 10) (to_z w64 (of_z w64 whole))) (I : t ≡ true)
+      (X : x ≡ of_z w64 (to_z w64 (of_z w64 rest))) (Y : y ≡ of_z w64 (to_z w64 (of_z w64 divisor))) (N : pos r ≡ near_of edition (pos (100000 * x)) (pos y)) (S : s ≡ to_z w64 r) where
+    part-is : pos r ≡ near_of edition (pos 100000 *ℤ rest) divisor
+    part-is = N ∙ ap (λ (z : ℤ). near_of edition (pos 100000 *ℤ z) (pos y)) (rest-is X) ∙ ap (near_of edition (pos 100000 *ℤ rest)) (divisor-is Y)
 
-  module _ {r : ℕ} {s : ℤ} (N : pos r ≡ near_of edition (pos 100000 *ℤ rest) divisor) (S : s ≡ to_z w64 r) (F : SFits w64 whole) (W : between_of (neg_ℤ (pos 1)) (pos 10) whole ≡ true) where
     part-small : r ≤ 100000
-    part-small = omega (arith, le_ud (part_ranged edition rise divisor Q.1 D).high, eq_ud N)
+    part-small = omega (arith, le_ud (part_ranged edition rise divisor Q.1 D).high, eq_ud part-is)
 
     abbrev P : Loc w64
     P = signed r (omega (arith, part-small)) S
 
+    whole-in : between_of (neg_ℤ (pos 1)) (pos 10) whole ≡ true
+    whole-in = sym (tested (neg_ℤ (pos 1)) (pos 10) (arg whole F) T) ∙ I
+
     product-small : nat_abs (pos 100000 *ℤ whole) ≤ 1000000
-    product-small = omega (arith, abs_prod (pos 100000) whole, between_abs (inside (neg_ℤ (pos 1)) (pos 10) whole W))
+    product-small = omega (arith, abs_prod (pos 100000) whole, between_abs (inside (neg_ℤ (pos 1)) (pos 10) whole whole-in))
 
     abbrev K : Loc w64
     K = mul (lit 100000 (lit< tt)) (arg whole F) (abs_sfits (omega (arith, product-small)))
@@ -64,21 +67,22 @@ module _ (edition : ℕ) {rise divisor whole rest : ℤ} (Q : (nat_abs rise ≤ 
     B = add K P (abs_sfits (omega (arith, abs_sum K.num P.num, product-small, part-small)))
 
     b-is : B.num ≡ b
-    b-is = ap (λ (z : ℤ). pos 100000 *ℤ whole +ℤ z) N ∙ sym (slope_parts edition rise divisor Q.1 D)
+    b-is = ap (λ (z : ℤ). pos 100000 *ℤ whole +ℤ z) part-is ∙ sym (slope_parts edition rise divisor Q.1 D)
 
-    b-tested : {t : Bool} → t ≡ between_of (pos 1) (pos 1000000) (to_z w64 B.bits) → t ≡ slope_ranged_of b
-    b-tested e = tested (pos 1) (pos 1000000) B e ∙ ap slope_ranged_of b-is
+    module _ {u : Bool} (U : u ≡ between_of (pos 1) (pos 1000000) (to_z w64 B.bits)) where
+      b-tested : u ≡ slope_ranged_of b
+      b-tested = tested (pos 1) (pos 1000000) B U ∙ ap slope_ranged_of b-is
 
-    -- B as i32
-    abbrev Result : slope_ranged_of b ≡ true → Loc w32
-    Result t = cast w32 B (rw b-is (between_fits tt (inside (pos 1) (pos 1000000) b t)))
+      -- B as i32
+      abbrev Result : u ≡ true → Loc w32
+      Result e = cast w32 B (rw b-is (between_fits tt (inside (pos 1) (pos 1000000) b (sym b-tested ∙ e))))
 
 pub returns-then-not-between : goal.returns-then-not-between
 returns-then-not-between c =
     let a = c.args in
     let D = parts c.requires.1 c.ranges.rise c.ranges.divisor c.divide-p.ensures in
-    let W : SFits w64 c.divide-p.result.whole = search rules in
-    sym (slope_far a.edition a.rise a.divisor c.requires.1 D (sym (tested (neg_ℤ (pos 1)) (pos 10) (arg c.divide-p.result.whole W) c.between.ensures) ∙ c.if-not-between.true))
+    let F : SFits w64 c.divide-p.result.whole = search rules in
+    sym (slope_far a.edition a.rise a.divisor c.requires.1 D (sym (tested (neg_ℤ (pos 1)) (pos 10) (arg c.divide-p.result.whole F) c.between.ensures) ∙ c.if-not-between.true))
 
 pub overflow_mul-cast_unsigned : goal.overflow_mul-cast_unsigned
 overflow_mul-cast_unsigned c =
@@ -88,39 +92,26 @@ overflow_mul-cast_unsigned c =
 
 pub overflow_add-b : goal.overflow_add-b
 overflow_add-b c =
-    let e = c.args.edition in
     let D = parts c.requires.1 c.ranges.rise c.ranges.divisor c.divide-p.ensures in
     let F : SFits w64 c.divide-p.result.whole = search rules in
-    let W = sym (tested (neg_ℤ (pos 1)) (pos 10) (arg c.divide-p.result.whole F) c.between.ensures) ∙ c.if-not-between.false in
-    let N = part-is e c.requires D c.cast_unsigned.ensures c.cast_unsigned-2.ensures c.near_unsigned-part.ensures in
-    add_need (K e c.requires D N c.cast_signed.ensures F W) (P e c.requires D N c.cast_signed.ensures F W) (B e c.requires D N c.cast_signed.ensures F W).fit
+    add_need (K c.args.edition c.requires D F c.between.ensures c.if-not-between.false c.cast_unsigned.ensures c.cast_unsigned-2.ensures c.near_unsigned-part.ensures c.cast_signed.ensures) (P c.args.edition c.requires D F c.between.ensures c.if-not-between.false c.cast_unsigned.ensures c.cast_unsigned-2.ensures c.near_unsigned-part.ensures c.cast_signed.ensures) (B c.args.edition c.requires D F c.between.ensures c.if-not-between.false c.cast_unsigned.ensures c.cast_unsigned-2.ensures c.near_unsigned-part.ensures c.cast_signed.ensures).fit
 
 pub returns-then-not-between-2 : goal.returns-then-not-between-2
 returns-then-not-between-2 c =
     let a = c.args in
     let D = parts c.requires.1 c.ranges.rise c.ranges.divisor c.divide-p.ensures in
     let F : SFits w64 c.divide-p.result.whole = search rules in
-    let W = sym (tested (neg_ℤ (pos 1)) (pos 10) (arg c.divide-p.result.whole F) c.between.ensures) ∙ c.if-not-between.false in
-    let N = part-is a.edition c.requires D c.cast_unsigned.ensures c.cast_unsigned-2.ensures c.near_unsigned-part.ensures in
-    sym (slope_out a.edition a.rise a.divisor (sym (b-tested a.edition c.requires D N c.cast_signed.ensures F W c.between-2.ensures) ∙ c.if-not-between-2.true))
+    sym (slope_out a.edition a.rise a.divisor (sym (b-tested c.args.edition c.requires D F c.between.ensures c.if-not-between.false c.cast_unsigned.ensures c.cast_unsigned-2.ensures c.near_unsigned-part.ensures c.cast_signed.ensures c.between-2.ensures) ∙ c.if-not-between-2.true))
 
 pub overflow_cast-result : goal.overflow_cast-result
 overflow_cast-result c =
-    let e = c.args.edition in
     let D = parts c.requires.1 c.ranges.rise c.ranges.divisor c.divide-p.ensures in
     let F : SFits w64 c.divide-p.result.whole = search rules in
-    let W = sym (tested (neg_ℤ (pos 1)) (pos 10) (arg c.divide-p.result.whole F) c.between.ensures) ∙ c.if-not-between.false in
-    let N = part-is e c.requires D c.cast_unsigned.ensures c.cast_unsigned-2.ensures c.near_unsigned-part.ensures in
-    let R = sym (b-tested e c.requires D N c.cast_signed.ensures F W c.between-2.ensures) ∙ c.if-not-between-2.false in
-    cast_need w32 (B e c.requires D N c.cast_signed.ensures F W) (Result e c.requires D N c.cast_signed.ensures F W R).fit
+    cast_need w32 (B c.args.edition c.requires D F c.between.ensures c.if-not-between.false c.cast_unsigned.ensures c.cast_unsigned-2.ensures c.near_unsigned-part.ensures c.cast_signed.ensures) (Result c.args.edition c.requires D F c.between.ensures c.if-not-between.false c.cast_unsigned.ensures c.cast_unsigned-2.ensures c.near_unsigned-part.ensures c.cast_signed.ensures c.between-2.ensures c.if-not-between-2.false).fit
 
 pub returns : goal.returns
 returns c =
     let a = c.args in
     let D = parts c.requires.1 c.ranges.rise c.ranges.divisor c.divide-p.ensures in
     let F : SFits w64 c.divide-p.result.whole = search rules in
-    let W = sym (tested (neg_ℤ (pos 1)) (pos 10) (arg c.divide-p.result.whole F) c.between.ensures) ∙ c.if-not-between.false in
-    let N = part-is a.edition c.requires D c.cast_unsigned.ensures c.cast_unsigned-2.ensures c.near_unsigned-part.ensures in
-    let R = sym (b-tested a.edition c.requires D N c.cast_signed.ensures F W c.between-2.ensures) ∙ c.if-not-between-2.false in
-    ap (λ (z : ℤ). Some z) ((Result a.edition c.requires D N c.cast_signed.ensures F W R).reads ∙ b-is a.edition c.requires D N c.cast_signed.ensures F W)
-    ∙ sym (slope_in a.edition a.rise a.divisor R)
+    ap (λ (z : ℤ). Some z) ((Result c.args.edition c.requires D F c.between.ensures c.if-not-between.false c.cast_unsigned.ensures c.cast_unsigned-2.ensures c.near_unsigned-part.ensures c.cast_signed.ensures c.between-2.ensures c.if-not-between-2.false).reads ∙ (b-is c.args.edition c.requires D F c.between.ensures c.if-not-between.false c.cast_unsigned.ensures c.cast_unsigned-2.ensures c.near_unsigned-part.ensures c.cast_signed.ensures)) ∙ sym (slope_in a.edition a.rise a.divisor (sym (b-tested c.args.edition c.requires D F c.between.ensures c.if-not-between.false c.cast_unsigned.ensures c.cast_unsigned-2.ensures c.near_unsigned-part.ensures c.cast_signed.ensures c.between-2.ensures) ∙ c.if-not-between-2.false))

@@ -1,9 +1,9 @@
 -- `calibration::Sample::line_fits` meets its contract.
 use Rattle.std.proofs.Common.{◌≡◌, refl, sym, ap, ◌∙◌, ◌<◌, ◌≤◌, false, List, length, arith, to_z-of_z, w32}
-use Rattle.std.specs.Prelude.{ℤ, nat_abs}
+use Rattle.std.specs.Prelude.{ℤ}
 use mir.Val.{to_z, of_z}
 use Rattle.calibration.specs.Calibration.{some_beyond, deviations_of, q_of, residuals_of, top_of}
-use Rattle.calibration.specs.PairLaws.{between_fits, sigma_need, sigma_small, sigma_reads, sigma_is}
+use Rattle.calibration.specs.PairLaws.{between_fits}
 use Rattle.calibration.specs.Pairs.{RequirementsRanged}
 use Rattle.calibration.proofs.VerdictLaws.{Dispersed, dispersed, line_beyond, pairs_of_pairs, line_stands}
 use Rattle.calibration.specs.declared.Basis.{Basis}
@@ -11,6 +11,7 @@ use Rattle.calibration.specs.declared.Line.{Line}
 use Rattle.calibration.specs.declared.Pair.{Pair}
 use Rattle.calibration.specs.declared.Requirements.{Requirements}
 use Rattle.calibration.specs.declared.Residuals.{Residuals}
+use Rattle.calibration.proofs.WideLaws.{sigma_taken, taken_small}
 use Rattle.calibration.proofs.Sample.line_fits.Goals as goal
 
 limit : {q : Requirements} → RequirementsRanged q → to_z w32 (of_z w32 q.limit) ≡ q.limit
@@ -40,16 +41,13 @@ returns c =
     let near = sym c.beyond.ensures ∙ c.if-beyond.false in
     let R = c.residuals-r.ensures in
     let s = spread b c.args.l ps c.args.self.some c.args.self.few near R in
-    line_stands b.edition b.requirements ps c.args.l (length ps) c.dispersion.result (nat_abs b.requirements.uncertainty) near refl (c.dispersion.ensures ∙ s.is) (sigma_is c.args.self.required)
-    c.varied.result (c.varied.ensures ∙ rw (sigma_reads c.args.self.required, c.k_factor.ensures.0))
+    line_stands b.edition b.requirements ps c.args.l (length ps) c.dispersion.result c.cast_unsigned.result near refl (c.dispersion.ensures ∙ s.is) (sigma_taken c.args.self.required c.cast_unsigned.ensures)
+    c.varied.result (c.varied.ensures ∙ rw c.k_factor.ensures.0)
     c.top.result
     (c.top.ensures
     ∙ ap (λ (e : ℤ). top_of b.edition e c.residuals-r.result.most) (limit c.args.self.required)
     ∙ ap (λ (r : Residuals). top_of b.edition b.requirements.limit r.most) R)
 
-pub overflow_cast-q : goal.overflow_cast-q
-overflow_cast-q c = sigma_need c.args.self.required
-
 pub varied-requires : goal.varied-requires
 varied-requires c =
-    (omega arith, pairs_of_pairs (length c.args.self.pairs.now) c.args.self.few, sigma_small c.args.self.required, c.k_factor.ensures.1)
+    (omega arith, pairs_of_pairs (length c.args.self.pairs.now) c.args.self.few, taken_small c.args.self.required c.cast_unsigned.ensures, c.k_factor.ensures.1)
