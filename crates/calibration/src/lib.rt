@@ -184,20 +184,12 @@ pub fn standard_conditions(edition: u8, reference: i32, k: Conditions, v: Actual
     requires { OxygenRanged reference × ConditionsRanged k × (nat_abs v.0 ≤ 8000000) }
     ensures { result ≡ standard_of edition reference k v }
 {
-    let t = times(
-        edition,
-        i64::from(v.0),
-        27315 + i64::from(k.temperature),
-        27315,
-    );
+    let x = i64::from(v.0);
+    let t = times(edition, x, 27315 + i64::from(k.temperature), 27315);
     let p = times(edition, t, 10130, 10130 + i64::from(k.pressure));
     let h = times(edition, p, 10000, 10000 - i64::from(k.water));
-    let o = times(
-        edition,
-        h,
-        2100 - i64::from(reference),
-        2100 - i64::from(k.oxygen),
-    );
+    let air = 2100 - i64::from(reference);
+    let o = times(edition, h, air, 2100 - i64::from(k.oxygen));
     Standard(o as i32)
 }
 
@@ -205,11 +197,8 @@ pub fn calibrated(edition: u8, l: Line, x: i32) -> Actual
     requires { LineRanged l × Between (pos 0) (pos 400000) x }
     ensures { result ≡ calibrated_of edition l x }
 {
-    let v = charts::near(
-        edition,
-        l.intercept + i64::from(l.slope) * i64::from(x),
-        100000,
-    );
+    let bx = i64::from(l.slope) * i64::from(x);
+    let v = charts::near(edition, l.intercept + bx, 100000);
     Actual(v as i32)
 }
 
@@ -262,11 +251,8 @@ fn slope(edition: u8, rise: i64, divisor: i64) -> Option<i32>
     if !between(-1, 10, p.whole) {
         return None;
     }
-    let part = charts::near_unsigned(
-        edition,
-        100000 * p.rest.cast_unsigned(),
-        divisor.cast_unsigned(),
-    );
+    let rest = p.rest.cast_unsigned();
+    let part = charts::near_unsigned(edition, 100000 * rest, divisor.cast_unsigned());
     let b = 100000 * p.whole + part.cast_signed();
     if !between(1, 1000000, b) {
         return None;

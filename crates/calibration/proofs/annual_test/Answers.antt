@@ -47,18 +47,10 @@ invariant_of-sample c =
     let n = counted c.args.b c.args.l c.args.pairs.now (sym c.annual_count_fits.ensures ∙ c.if-not-annual_count_fits.false) in
     record { some = omega (arith, n); few = c.requires.0; ranged = all_tested c.args.pairs.now c.requires.1; required = c.requires.2 }
 
-pub residuals-r-requires : goal.residuals-r-requires
-residuals-r-requires c = (c.requires.3, sym c.beyond.ensures ∙ c.if-beyond.false)
-
 pub dispersion-dispersed-requires : goal.dispersion-dispersed-requires
 dispersion-dispersed-requires c =
     let s = spread c.args.b c.args.l c.args.pairs.now (sym c.annual_count_fits.ensures ∙ c.if-not-annual_count_fits.false) (sym c.beyond.ensures ∙ c.if-beyond.false) c.residuals-r.ensures in
     (c.requires.0, s.sum, s.squares, s.above)
-
-pub overflow_sub-n : goal.overflow_sub-n
-overflow_sub-n c =
-    let n = counted c.args.b c.args.l c.args.pairs.now (sym c.annual_count_fits.ensures ∙ c.if-not-annual_count_fits.false) in
-    omega (arith, n)
 
 pub varied-requires : goal.varied-requires
 varied-requires c =

@@ -84,34 +84,34 @@ returns-then-not-between c =
     let F : SFits w64 c.divide-p.result.whole = search rules in
     sym (slope_far a.edition a.rise a.divisor c.requires.1 D (sym (tested (neg_ℤ (pos 1)) (pos 10) (arg c.divide-p.result.whole F) c.between.ensures) ∙ c.if-not-between.true))
 
-pub overflow_mul-cast_unsigned : goal.overflow_mul-cast_unsigned
-overflow_mul-cast_unsigned c =
+pub overflow_mul-rest : goal.overflow_mul-rest
+overflow_mul-rest c =
     let D = parts c.requires.1 c.ranges.rise c.ranges.divisor c.divide-p.ensures in
-    let e = rest-is c.args.edition c.requires D c.cast_unsigned.ensures in
+    let e = rest-is c.args.edition c.requires D c.cast_unsigned-rest.ensures in
     omega (arith, ap nat_abs e, rest-small c.args.edition c.requires D)
 
 pub overflow_add-b : goal.overflow_add-b
 overflow_add-b c =
     let D = parts c.requires.1 c.ranges.rise c.ranges.divisor c.divide-p.ensures in
     let F : SFits w64 c.divide-p.result.whole = search rules in
-    add_need (K c.args.edition c.requires D F c.between.ensures c.if-not-between.false c.cast_unsigned.ensures c.cast_unsigned-2.ensures c.near_unsigned-part.ensures c.cast_signed.ensures) (P c.args.edition c.requires D F c.between.ensures c.if-not-between.false c.cast_unsigned.ensures c.cast_unsigned-2.ensures c.near_unsigned-part.ensures c.cast_signed.ensures) (B c.args.edition c.requires D F c.between.ensures c.if-not-between.false c.cast_unsigned.ensures c.cast_unsigned-2.ensures c.near_unsigned-part.ensures c.cast_signed.ensures).fit
+    add_need (K c.args.edition c.requires D F c.between.ensures c.if-not-between.false c.cast_unsigned-rest.ensures c.cast_unsigned.ensures c.near_unsigned-part.ensures c.cast_signed.ensures) (P c.args.edition c.requires D F c.between.ensures c.if-not-between.false c.cast_unsigned-rest.ensures c.cast_unsigned.ensures c.near_unsigned-part.ensures c.cast_signed.ensures) (B c.args.edition c.requires D F c.between.ensures c.if-not-between.false c.cast_unsigned-rest.ensures c.cast_unsigned.ensures c.near_unsigned-part.ensures c.cast_signed.ensures).fit
 
 pub returns-then-not-between-2 : goal.returns-then-not-between-2
 returns-then-not-between-2 c =
     let a = c.args in
     let D = parts c.requires.1 c.ranges.rise c.ranges.divisor c.divide-p.ensures in
     let F : SFits w64 c.divide-p.result.whole = search rules in
-    sym (slope_out a.edition a.rise a.divisor (sym (b-tested c.args.edition c.requires D F c.between.ensures c.if-not-between.false c.cast_unsigned.ensures c.cast_unsigned-2.ensures c.near_unsigned-part.ensures c.cast_signed.ensures c.between-2.ensures) ∙ c.if-not-between-2.true))
+    sym (slope_out a.edition a.rise a.divisor (sym (b-tested c.args.edition c.requires D F c.between.ensures c.if-not-between.false c.cast_unsigned-rest.ensures c.cast_unsigned.ensures c.near_unsigned-part.ensures c.cast_signed.ensures c.between-2.ensures) ∙ c.if-not-between-2.true))
 
 pub overflow_cast-result : goal.overflow_cast-result
 overflow_cast-result c =
     let D = parts c.requires.1 c.ranges.rise c.ranges.divisor c.divide-p.ensures in
     let F : SFits w64 c.divide-p.result.whole = search rules in
-    cast_need w32 (B c.args.edition c.requires D F c.between.ensures c.if-not-between.false c.cast_unsigned.ensures c.cast_unsigned-2.ensures c.near_unsigned-part.ensures c.cast_signed.ensures) (Result c.args.edition c.requires D F c.between.ensures c.if-not-between.false c.cast_unsigned.ensures c.cast_unsigned-2.ensures c.near_unsigned-part.ensures c.cast_signed.ensures c.between-2.ensures c.if-not-between-2.false).fit
+    cast_need w32 (B c.args.edition c.requires D F c.between.ensures c.if-not-between.false c.cast_unsigned-rest.ensures c.cast_unsigned.ensures c.near_unsigned-part.ensures c.cast_signed.ensures) (Result c.args.edition c.requires D F c.between.ensures c.if-not-between.false c.cast_unsigned-rest.ensures c.cast_unsigned.ensures c.near_unsigned-part.ensures c.cast_signed.ensures c.between-2.ensures c.if-not-between-2.false).fit
 
 pub returns : goal.returns
 returns c =
     let a = c.args in
     let D = parts c.requires.1 c.ranges.rise c.ranges.divisor c.divide-p.ensures in
     let F : SFits w64 c.divide-p.result.whole = search rules in
-    ap (λ (z : ℤ). Some z) ((Result c.args.edition c.requires D F c.between.ensures c.if-not-between.false c.cast_unsigned.ensures c.cast_unsigned-2.ensures c.near_unsigned-part.ensures c.cast_signed.ensures c.between-2.ensures c.if-not-between-2.false).reads ∙ (b-is c.args.edition c.requires D F c.between.ensures c.if-not-between.false c.cast_unsigned.ensures c.cast_unsigned-2.ensures c.near_unsigned-part.ensures c.cast_signed.ensures)) ∙ sym (slope_in a.edition a.rise a.divisor (sym (b-tested c.args.edition c.requires D F c.between.ensures c.if-not-between.false c.cast_unsigned.ensures c.cast_unsigned-2.ensures c.near_unsigned-part.ensures c.cast_signed.ensures c.between-2.ensures) ∙ c.if-not-between-2.false))
+    ap (λ (z : ℤ). Some z) ((Result c.args.edition c.requires D F c.between.ensures c.if-not-between.false c.cast_unsigned-rest.ensures c.cast_unsigned.ensures c.near_unsigned-part.ensures c.cast_signed.ensures c.between-2.ensures c.if-not-between-2.false).reads ∙ (b-is c.args.edition c.requires D F c.between.ensures c.if-not-between.false c.cast_unsigned-rest.ensures c.cast_unsigned.ensures c.near_unsigned-part.ensures c.cast_signed.ensures)) ∙ sym (slope_in a.edition a.rise a.divisor (sym (b-tested c.args.edition c.requires D F c.between.ensures c.if-not-between.false c.cast_unsigned-rest.ensures c.cast_unsigned.ensures c.near_unsigned-part.ensures c.cast_signed.ensures c.between-2.ensures) ∙ c.if-not-between-2.false))

@@ -98,17 +98,17 @@ module _ (edition : ℕ) (reference : ℤ) (k : Conditions) (v : Actual) (F : SF
 pub times-p-requires : goal.times-p-requires
 times-p-requires c =
     let a = c.args in
-    let e₁ = rw (c.from.ensures, c.from-2.ensures) at c.times-t.ensures in
-    rw c.from-3.ensures (asks a.edition (call₂ a.edition a.reference a.k a.v c.ranges.reference c.requires (record { sfits = c.times-t.type_inv }) e₁) (omega arith))
+    let e₁ = rw (c.from-x.ensures, c.from.ensures) at c.times-t.ensures in
+    rw c.from-2.ensures (asks a.edition (call₂ a.edition a.reference a.k a.v c.ranges.reference c.requires (record { sfits = c.times-t.type_inv }) e₁) (omega arith))
 
 pub times-h-requires : goal.times-h-requires
 times-h-requires c =
     let a = c.args in
     let T : SFits w64 c.times-t.result = record { sfits = c.times-t.type_inv } in
     let P : SFits w64 c.times-p.result = record { sfits = c.times-p.type_inv } in
-    let e₁ = rw (c.from.ensures, c.from-2.ensures) at c.times-t.ensures in
-    let e₂ = rw c.from-3.ensures at c.times-p.ensures in
-    rw c.from-4.ensures (asks a.edition (call₃ a.edition a.reference a.k a.v c.ranges.reference c.requires T e₁ P e₂) (omega arith))
+    let e₁ = rw (c.from-x.ensures, c.from.ensures) at c.times-t.ensures in
+    let e₂ = rw c.from-2.ensures at c.times-p.ensures in
+    rw c.from-3.ensures (asks a.edition (call₃ a.edition a.reference a.k a.v c.ranges.reference c.requires T e₁ P e₂) (omega arith))
 
 pub times-o-requires : goal.times-o-requires
 times-o-requires c =
@@ -116,10 +116,10 @@ times-o-requires c =
     let T : SFits w64 c.times-t.result = record { sfits = c.times-t.type_inv } in
     let P : SFits w64 c.times-p.result = record { sfits = c.times-p.type_inv } in
     let H : SFits w64 c.times-h.result = record { sfits = c.times-h.type_inv } in
-    let e₁ = rw (c.from.ensures, c.from-2.ensures) at c.times-t.ensures in
-    let e₂ = rw c.from-3.ensures at c.times-p.ensures in
-    let e₃ = rw c.from-4.ensures at c.times-h.ensures in
-    rw (c.from-5.ensures, c.from-6.ensures) (asks a.edition (call₄ a.edition a.reference a.k a.v c.ranges.reference c.requires T e₁ P e₂ H e₃) (omega arith))
+    let e₁ = rw (c.from-x.ensures, c.from.ensures) at c.times-t.ensures in
+    let e₂ = rw c.from-2.ensures at c.times-p.ensures in
+    let e₃ = rw c.from-3.ensures at c.times-h.ensures in
+    rw (c.from-air.ensures, c.from-4.ensures) (asks a.edition (call₄ a.edition a.reference a.k a.v c.ranges.reference c.requires T e₁ P e₂ H e₃) (omega arith))
 
 pub overflow_cast-result : goal.overflow_cast-result
 overflow_cast-result c =
@@ -128,10 +128,10 @@ overflow_cast-result c =
     let P : SFits w64 c.times-p.result = record { sfits = c.times-p.type_inv } in
     let H : SFits w64 c.times-h.result = record { sfits = c.times-h.type_inv } in
     let O : SFits w64 c.times-o.result = record { sfits = c.times-o.type_inv } in
-    let e₁ = rw (c.from.ensures, c.from-2.ensures) at c.times-t.ensures in
-    let e₂ = rw c.from-3.ensures at c.times-p.ensures in
-    let e₃ = rw c.from-4.ensures at c.times-h.ensures in
-    let e₄ = rw (c.from-5.ensures, c.from-6.ensures) at c.times-o.ensures in
+    let e₁ = rw (c.from-x.ensures, c.from.ensures) at c.times-t.ensures in
+    let e₂ = rw c.from-2.ensures at c.times-p.ensures in
+    let e₃ = rw c.from-3.ensures at c.times-h.ensures in
+    let e₄ = rw (c.from-air.ensures, c.from-4.ensures) at c.times-o.ensures in
     cast_need w32 (arg c.times-o.result O) (small a.edition a.reference a.k a.v c.ranges.reference c.requires T e₁ P e₂ H e₃ O e₄)
 
 pub returns : goal.returns
@@ -141,8 +141,8 @@ returns c =
     let P : SFits w64 c.times-p.result = record { sfits = c.times-p.type_inv } in
     let H : SFits w64 c.times-h.result = record { sfits = c.times-h.type_inv } in
     let O : SFits w64 c.times-o.result = record { sfits = c.times-o.type_inv } in
-    let e₁ = rw (c.from.ensures, c.from-2.ensures) at c.times-t.ensures in
-    let e₂ = rw c.from-3.ensures at c.times-p.ensures in
-    let e₃ = rw c.from-4.ensures at c.times-h.ensures in
-    let e₄ = rw (c.from-5.ensures, c.from-6.ensures) at c.times-o.ensures in
+    let e₁ = rw (c.from-x.ensures, c.from.ensures) at c.times-t.ensures in
+    let e₂ = rw c.from-2.ensures at c.times-p.ensures in
+    let e₃ = rw c.from-3.ensures at c.times-h.ensures in
+    let e₄ = rw (c.from-air.ensures, c.from-4.ensures) at c.times-o.ensures in
     ap (λ (z : ℤ). record { 0 = z }) (result a.edition a.reference a.k a.v c.ranges.reference c.requires T e₁ P e₂ H e₃ O e₄)
