@@ -1,5 +1,5 @@
 -- `charts::near_unsigned` meets its contract: where the quotient is raised, the divisor is at least 2, so that one more fits.
-use Rattle.std.proofs.Common.{◌≡◌, sym, subst, ◌∙◌, not, true, ℕ, ◌%◌, ◌/◌, ◌<◌, arith, T, div-add-mod', mod-lt, mul-le-mul_left}
+use Rattle.std.proofs.Common.{◌≡◌, sym, subst, ◌∙◌, not, ℕ, ◌%◌, ◌/◌, ◌<◌, arith, T, div-add-mod', mod-lt, mul-le-mul_left}
 use Rattle.std.specs.Prelude.{Bool, eqb, pos}
 use Rattle.charts.specs.Integers.{ud_lt}
 use Rattle.charts.specs.Rounding.{odd, rounds_up}
