@@ -1,7 +1,7 @@
 -- `calibration::share` meets its contract.
 use Rattle.std.proofs.Common.{◌≡◌, ap, ◌∙◌, ◌≤◌, arith, SFits, w32, w64}
 use Rattle.std.specs.Prelude.{ℕ, ℤ, pos, nat_abs, ◌*ℤ◌}
-use Rattle.charts.specs.Integers.{abs_sfits}
+use Rattle.charts.specs.Integers.{ints, abs_sfits}
 use Rattle.charts.specs.SignedLocals.{Loc, arg, mul, cast, cast_need}
 use Rattle.charts.specs.Rounding.{near_of}
 use Rattle.calibration.specs.PairLaws.{wide}
@@ -19,6 +19,12 @@ module _ (percent v : ℤ) (P : SFits w64 percent) (V : SFits w32 v) (Q : (nat_a
   -- the result fits i32
   fits : (edition : ℕ) {x : ℤ} → x ≡ near_of edition (percent *ℤ v) (pos 100) → SFits w32 x
   fits edition e = rw e (abs_sfits (omega (arith, share_bound edition percent v Q.0 Q.1)))
+
+pub near-requires : goal.near-requires
+near-requires c =
+    let a = c.args in
+    rw (c.from.ensures, (PX a.percent a.v c.ranges.percent c.ranges.v c.requires).reads)
+    (omega (arith, small a.percent a.v c.ranges.percent c.ranges.v c.requires), omega ints, omega arith)
 
 pub overflow_cast-result : goal.overflow_cast-result
 overflow_cast-result c =

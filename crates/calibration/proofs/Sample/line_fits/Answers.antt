@@ -1,17 +1,17 @@
 -- `calibration::Sample::line_fits` meets its contract.
-use Rattle.std.proofs.Common.{◌≡◌, refl, sym, ap, ◌∙◌, ◌<◌, ◌≤◌, false, List, length, to_z-of_z, w32}
+use Rattle.std.proofs.Common.{arith, ◌≡◌, refl, sym, ap, ◌∙◌, ◌<◌, ◌≤◌, false, List, length, to_z-of_z, w32}
 use Rattle.std.specs.Prelude.{ℤ}
 use mir.Val.{to_z, of_z}
 use Rattle.calibration.specs.Calibration.{some_beyond, deviations_of, q_of, residuals_of, top_of}
 use Rattle.calibration.specs.PairLaws.{between_fits}
 use Rattle.calibration.specs.Pairs.{RequirementsRanged}
-use Rattle.calibration.proofs.VerdictLaws.{Dispersed, dispersed, line_beyond, line_stands}
+use Rattle.calibration.proofs.VerdictLaws.{Dispersed, dispersed, line_beyond, pairs_of_pairs, line_stands}
 use Rattle.calibration.specs.declared.Basis.{Basis}
 use Rattle.calibration.specs.declared.Line.{Line}
 use Rattle.calibration.specs.declared.Pair.{Pair}
 use Rattle.calibration.specs.declared.Requirements.{Requirements}
 use Rattle.calibration.specs.declared.Residuals.{Residuals}
-use Rattle.calibration.proofs.WideLaws.{sigma_taken}
+use Rattle.calibration.proofs.WideLaws.{sigma_taken, taken_small}
 use Rattle.calibration.proofs.Sample.line_fits.Goals as goal
 
 limit : {q : Requirements} → RequirementsRanged q → to_z w32 (of_z w32 q.limit) ≡ q.limit
@@ -47,3 +47,6 @@ returns c =
     (c.top.ensures
     ∙ ap (λ (e : ℤ). top_of b.edition e c.residuals-r.result.most) (limit c.args.self.required)
     ∙ ap (λ (r : Residuals). top_of b.edition b.requirements.limit r.most) R)
+
+pub varied-requires : goal.varied-requires
+varied-requires c = (omega arith, pairs_of_pairs (length c.args.self.pairs.now) c.args.self.few, taken_small c.args.self.required c.cast_unsigned.ensures, c.k_factor.ensures.1)
