@@ -9,6 +9,8 @@ pub mod LentListLaws
 pub mod SumLaws
 pub mod SlopeLaws
 pub mod OrderLaws
+pub mod WideLaws
+pub mod RegressionLaws
 pub mod SampleLaws
 pub mod OutcomeLaws
 pub mod GatheredLaws

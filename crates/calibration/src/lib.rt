@@ -53,14 +53,15 @@ pub struct Basis {
     pub requirements: Requirements,
 }
 
-// Pairs with what they are worked out by: at most thirty, and all in range.
+// Pairs with what they are worked out by: at least one, at most thirty, and all in range.
 #[derive(Clone, Copy)]
 struct Sample<'a> {
     pairs: &'a [Pair],
     basis: Basis,
+    ghost some: { 0 < length pairs.now },
     ghost few: { length pairs.now ≤ 30 },
     ghost ranged: { list_all pair_ranged_of pairs.now ≡ true },
-    ghost required: { requirements_ranged_of basis.requirements ≡ true },
+    ghost required: { RequirementsRanged basis.requirements },
 }
 
 // A calibration function: slope B and intercept A. Its range is no ghost field: `line_ranged` asks it of any line, and the definitions make lines of any.
@@ -70,7 +71,7 @@ pub struct Line {
     pub intercept: i64,
 }
 
-// N, Σx, Σy, Σxy and Σx². Their range is asked by a clause where it is needed, and is no ghost field: the definitions sum pairs of any range.
+// N, Σx, Σy, Σxy and Σx². Their range is a ghost field of `Regression`, and none here: the definitions sum pairs of any range.
 #[derive(Clone, Copy, Default)]
 pub struct Sums {
     pub n: u32,
@@ -78,6 +79,17 @@ pub struct Sums {
     pub y: i64,
     pub xy: i64,
     pub xx: i64,
+}
+
+// What B and A are worked out from: the branch for the slope, the sums of at least one pair, and Z.
+#[derive(Clone, Copy)]
+struct Regression {
+    flat: bool,
+    sums: Sums,
+    z: i32,
+    ghost some: { 0 < sums.n },
+    ghost summed: { SumsRanged sums },
+    ghost offset: { ZRanged z },
 }
 
 // The least and the greatest of some concentrations.
@@ -122,43 +134,43 @@ pub fn between(low: i64, high: i64, x: i64) -> bool
 pub fn conditions_ranged(k: Conditions) -> bool
     ensures { result ≡ conditions_ranged_of k }
 {
-    between(-5000, 50000, k.temperature as i64)
-        & between(-2000, 2000, k.pressure as i64)
-        & between(0, 5000, k.water as i64)
-        & between(0, 1800, k.oxygen as i64)
+    between(-5000, 50000, i64::from(k.temperature))
+        & between(-2000, 2000, i64::from(k.pressure))
+        & between(0, 5000, i64::from(k.water))
+        & between(0, 1800, i64::from(k.oxygen))
 }
 
 pub fn pair_ranged(p: Pair) -> bool
     ensures { result ≡ pair_ranged_of p }
 {
-    between(0, 400000, p.signal as i64)
-        & between(0, 400000, p.srm.0 as i64)
+    between(0, 400000, i64::from(p.signal))
+        & between(0, 400000, i64::from(p.srm.0))
         & conditions_ranged(p.conditions)
 }
 
 pub fn requirements_ranged(q: Requirements) -> bool
     ensures { result ≡ requirements_ranged_of q }
 {
-    between(100, 400000, q.limit as i64)
-        & between(1, 10000, q.uncertainty as i64)
-        & between(0, 1800, q.oxygen as i64)
+    between(100, 400000, i64::from(q.limit))
+        & between(1, 10000, i64::from(q.uncertainty))
+        & between(0, 1800, i64::from(q.oxygen))
 }
 
 pub fn z_ranged(z: i32) -> bool
     ensures { result ≡ z_ranged_of z }
 {
-    between(-10000, 10000, z as i64)
+    between(-10000, 10000, i64::from(z))
 }
 
 pub fn line_ranged(l: Line) -> bool
     ensures { result ≡ line_ranged_of l }
 {
-    between(1, 1000000, l.slope as i64) & between(-400000000000, 400000000000, l.intercept)
+    between(1, 1000000, i64::from(l.slope)) & between(-400000000000, 400000000000, l.intercept)
 }
 
 // ---- standard conditions and calibrated values
 
-// One factor of formula 20, rounded: near(v·n/d).
+// One factor of formula 20, rounded: near(v·n/d). n and d stay two numbers, and a clause asks the sign of d: a fraction would be made only to be taken apart here.
 fn times(edition: u8, v: i64, n: i64, d: i64) -> i64
     requires { (nat_abs v ≤ 2 ^ 40) × (nat_abs n ≤ 2 ^ 20) × (pos 0 <ℤ d) × (nat_abs d ≤ 2 ^ 20) }
     ensures { result ≡ times_of edition v n d }
@@ -166,15 +178,18 @@ fn times(edition: u8, v: i64, n: i64, d: i64) -> i64
     charts::near(edition, v * n, d)
 }
 
-// The four factors in turn: the only step from analyser conditions to standard conditions.
+// The four factors in turn: the only step from analyser conditions to standard conditions. Casts by `as` narrow numbers that are proved to fit; a TryFrom
+// would answer an error that can't come.
 pub fn standard_conditions(edition: u8, reference: i32, k: Conditions, v: Actual) -> Standard
     requires { OxygenRanged reference × ConditionsRanged k × (nat_abs v.0 ≤ 8000000) }
     ensures { result ≡ standard_of edition reference k v }
 {
-    let t = times(edition, v.0 as i64, 27315 + k.temperature as i64, 27315);
-    let p = times(edition, t, 10130, 10130 + k.pressure as i64);
-    let h = times(edition, p, 10000, 10000 - k.water as i64);
-    let o = times(edition, h, 2100 - reference as i64, 2100 - k.oxygen as i64);
+    let x = i64::from(v.0);
+    let t = times(edition, x, 27315 + i64::from(k.temperature), 27315);
+    let p = times(edition, t, 10130, 10130 + i64::from(k.pressure));
+    let h = times(edition, p, 10000, 10000 - i64::from(k.water));
+    let air = 2100 - i64::from(reference);
+    let o = times(edition, h, air, 2100 - i64::from(k.oxygen));
     Standard(o as i32)
 }
 
@@ -182,7 +197,8 @@ pub fn calibrated(edition: u8, l: Line, x: i32) -> Actual
     requires { LineRanged l × Between (pos 0) (pos 400000) x }
     ensures { result ≡ calibrated_of edition l x }
 {
-    let v = charts::near(edition, l.intercept + (l.slope as i64) * (x as i64), 100000);
+    let bx = i64::from(l.slope) * i64::from(x);
+    let v = charts::near(edition, l.intercept + bx, 100000);
     Actual(v as i32)
 }
 
@@ -196,12 +212,13 @@ pub fn value(edition: u8, reference: i32, l: Line, k: Conditions, x: i32) -> Sta
 
 // ---- sums over the pairs
 
+// One pair more in the sums. A pair is a public value of any figures, so a clause asks its range; one of a `Sample` is in range.
 fn plus(u: Sums, p: Pair) -> Sums
     requires { SumsRanged u × (u.n < 30) × PairRanged p }
     ensures { result ≡ plus_of u p }
 {
-    let x = p.signal as i64;
-    let y = p.srm.0 as i64;
+    let x = i64::from(p.signal);
+    let y = i64::from(p.srm.0);
     Sums {
         n: u.n + 1,
         x: u.x + x,
@@ -211,6 +228,7 @@ fn plus(u: Sums, p: Pair) -> Sums
     }
 }
 
+#[tactic(auto, using(crate::proofs::OrderLaws::min_is, crate::proofs::OrderLaws::max_is), unfolding(crate::specs::Calibration::widened_of))]
 fn widened(s: Span, v: Standard) -> Span
     ensures { result ≡ widened_of s v }
 {
@@ -222,29 +240,9 @@ fn widened(s: Span, v: Standard) -> Span
 
 // ---- the function
 
-// The numerator of B, but for its factor 100000.
-fn rise(flat: bool, u: Sums) -> i64
-    requires { SumsRanged u }
-    ensures { result ≡ rise_of flat u }
-{
-    if flat {
-        return u.y;
-    }
-    (u.n as i64) * u.xy - u.x * u.y
-}
-
-fn divisor(flat: bool, u: Sums, z: i32) -> i64
-    requires { SumsRanged u × ZRanged z }
-    ensures { result ≡ divisor_of flat u z }
-{
-    if flat {
-        return u.x - (u.n as i64) * (z as i64);
-    }
-    (u.n as i64) * u.xx - u.x * u.x
-}
-
 // B, or none where it is outside 1..1,000,000: near(100000·rise/divisor), worked out from the whole part of rise/divisor and its rest. A whole part below
-// -1 or over 10 gives no B in its range (-1 gives none either, but a test against 0 would be one of the sign); the rest times 100000 fits, unsigned.
+// -1 or over 10 gives no B in its range (-1 gives none either, but a test against 0 would be one of the sign); the rest times 100000 fits, unsigned. A clause asks
+// the sign of the divisor: the caller tests it, and a type for it would be made for this call alone.
 fn slope(edition: u8, rise: i64, divisor: i64) -> Option<i32>
     requires { (nat_abs rise ≤ 144000000000000) × (pos 0 <ℤ divisor) × (nat_abs divisor ≤ 144000000000000) }
     ensures { result ≡ slope_code edition rise divisor }
@@ -253,23 +251,49 @@ fn slope(edition: u8, rise: i64, divisor: i64) -> Option<i32>
     if !between(-1, 10, p.whole) {
         return None;
     }
-    let part = charts::near_unsigned(edition, 100000 * (p.rest as u64), divisor as u64);
-    let b = 100000 * p.whole + part as i64;
+    let rest = p.rest.cast_unsigned();
+    let part = charts::near_unsigned(edition, 100000 * rest, divisor.cast_unsigned());
+    let b = 100000 * p.whole + part.cast_signed();
     if !between(1, 1000000, b) {
         return None;
     }
     Some(b as i32)
 }
 
-fn intercept(edition: u8, flat: bool, u: Sums, z: i32, b: i32) -> i64
-    requires { SumsRanged u × (0 < u.n) × ZRanged z × Between (pos 1) (pos 1000000) b }
-    ensures { result ≡ intercept_of edition flat u z b }
-{
-    let m = b as i64;
-    if flat {
-        return -(m * (z as i64));
+impl Regression {
+    // The numerator of B, but for its factor 100000.
+    fn rise(self) -> i64
+        ensures { result ≡ rise_of self.flat self.sums }
+    {
+        let u = self.sums;
+        if self.flat {
+            return u.y;
+        }
+        i64::from(u.n) * u.xy - u.x * u.y
     }
-    charts::near(edition, 100000 * u.y - m * u.x, u.n as i64)
+
+    fn divisor(self) -> i64
+        ensures { result ≡ divisor_of self.flat self.sums self.z }
+    {
+        let u = self.sums;
+        if self.flat {
+            return u.x - i64::from(u.n) * i64::from(self.z);
+        }
+        i64::from(u.n) * u.xx - u.x * u.x
+    }
+
+    // A, from the rounded B.
+    fn intercept(self, edition: u8, b: i32) -> i64
+        requires { Between (pos 1) (pos 1000000) b }
+        ensures { result ≡ intercept_of edition self.flat self.sums self.z b }
+    {
+        let u = self.sums;
+        let m = i64::from(b);
+        if self.flat {
+            return -(m * i64::from(self.z));
+        }
+        charts::near(edition, 100000 * u.y - m * u.x, i64::from(u.n))
+    }
 }
 
 // ---- residuals
@@ -277,7 +301,7 @@ fn intercept(edition: u8, flat: bool, u: Sums, z: i32, b: i32) -> i64
 fn far(v: Standard) -> bool
     ensures { result ≡ far_of v }
 {
-    !between(-10000000, 10000000, v.0 as i64)
+    !between(-10000000, 10000000, i64::from(v.0))
 }
 
 // One pair more in the residuals.
@@ -285,7 +309,7 @@ fn with_residual(r: Residuals, y: Standard, c: Standard) -> Residuals
     requires { (nat_abs r.sum ≤ 600000000) × (nat_abs r.squares ≤ 12000000000000000) × (far_of y ≡ false) × (far_of c ≡ false) }
     ensures { result ≡ with_residual_of r y c }
 {
-    let d = y.0 as i64 - c.0 as i64;
+    let d = i64::from(y.0) - i64::from(c.0);
     Residuals {
         most: r.most.max(c),
         sum: r.sum + d,
@@ -298,7 +322,7 @@ fn dispersion(n: u32, r: Residuals) -> u64
     requires { (n ≤ 30) × (nat_abs r.sum ≤ 600000000) × (nat_abs r.squares ≤ 12000000000000000) × pos 0 ≤ℤ dispersion_of n r }
     ensures { pos result ≡ dispersion_of n r }
 {
-    ((n as i64) * r.squares - r.sum * r.sum) as u64
+    (i64::from(n) * r.squares - r.sum * r.sum).cast_unsigned()
 }
 
 // near(percent·v/100).
@@ -306,7 +330,7 @@ fn share(edition: u8, percent: i64, v: i32) -> Standard
     requires { (nat_abs percent ≤ 110) × (nat_abs v ≤ 10000000) }
     ensures { result ≡ share_of edition percent v }
 {
-    Standard(charts::near(edition, percent * (v as i64), 100) as i32)
+    Standard(charts::near(edition, percent * i64::from(v), 100) as i32)
 }
 
 // 110 % of max c, and in edition 2 at least 20 % of the limit.
@@ -324,12 +348,14 @@ fn top(edition: u8, limit: i32, most: Standard) -> Standard
 // ---- verdicts
 
 // The numbers of pairs that a calibration takes, and those of an annual test below, are data, as the factors are.
+#[tactic(auto, using(std::proofs::lemmas::Bool::Decides::nat_tests), unfolding(crate::specs::Calibration::count_fits))]
 pub fn count_fits(n: u32) -> bool
     ensures { result ≡ count_fits n }
 {
     matches!(n, 15..=20 | 25 | 30)
 }
 
+#[tactic(auto, using(std::proofs::lemmas::Bool::Decides::nat_tests), unfolding(crate::specs::Annual::annual_count_fits))]
 fn annual_count_fits(n: u32) -> bool
     ensures { result ≡ annual_count_fits n }
 {
@@ -339,6 +365,7 @@ fn annual_count_fits(n: u32) -> bool
 // Of the factors each has its own table, and so its own function: data, with 0 where there is no row, as in the definitions. The counts are tested before.
 
 // The factor k of a calibration, in ten-thousandths.
+#[tactic(auto, using(std::proofs::lemmas::Bool::Decides::nat_tests), unfolding(crate::specs::Calibration::k_of))]
 fn k_factor(n: u32) -> u32
     ensures { (result ≡ k_of n) × (result ≤ 10000) }
 {
@@ -356,6 +383,7 @@ fn k_factor(n: u32) -> u32
 }
 
 // The factor k of an annual test, in ten-thousandths.
+#[tactic(auto, using(std::proofs::lemmas::Bool::Decides::nat_tests), unfolding(crate::specs::Annual::annual_k_of))]
 fn annual_k_factor(n: u32) -> u32
     ensures { (result ≡ annual_k_of n) × (result ≤ 10000) }
 {
@@ -369,6 +397,7 @@ fn annual_k_factor(n: u32) -> u32
 }
 
 // Student's factor T of an annual test, in thousandths.
+#[tactic(auto, using(std::proofs::lemmas::Bool::Decides::nat_tests), unfolding(crate::specs::Annual::t_of))]
 fn t_factor(n: u32) -> u32
     ensures { (result ≡ t_of n) × (result ≤ 3000) }
 {
@@ -386,9 +415,9 @@ fn varied(scale: u64, m: u32, sigma: u32, k: u32, q: u64) -> bool
     requires { (0 < scale) × (m ≤ 870) × (sigma ≤ 10000) × (k ≤ 10000) }
     ensures { result ≡ leb (scale * q) (m * (sigma * sigma) * (k * k)) }
 {
-    let s = sigma as u64;
-    let f = k as u64;
-    q <= (m as u64) * (s * s) * (f * f) / scale
+    let s = u64::from(sigma);
+    let f = u64::from(k);
+    q <= u64::from(m) * (s * s) * (f * f) / scale
 }
 
 // Whether (N-1)L²·10⁶ is at most T²Q. Q is split at 10⁶, so that no product passes 64 bits.
@@ -396,9 +425,9 @@ fn covered(n: u32, l: u64, q: u64) -> bool
     requires { (n ≤ 8) × (0 < n) × (l ≤ 600000000) × (q ≤ 1000000000000000000) }
     ensures { result ≡ leb ((n - 1) * (l * l) * 1000000) (t_of n * t_of n * q) }
 {
-    let t = t_factor(n) as u64;
+    let t = u64::from(t_factor(n));
     let tt = t * t;
-    ((n - 1) as u64) * (l * l) <= tt * (q / 1000000) + tt * (q % 1000000) / 1000000
+    u64::from(n - 1) * (l * l) <= tt * (q / 1000000) + tt * (q % 1000000) / 1000000
 }
 
 // The function test: |ΣD| is at most Nσ, or what it exceeds that by is covered.
@@ -407,7 +436,7 @@ fn function_holds(n: u32, sum: i64, q: u64, sigma: u32) -> bool
     ensures { result ≡ function_of n sum (pos q) (pos sigma) }
 {
     let a = sum.unsigned_abs();
-    let b = (n as u64) * (sigma as u64);
+    let b = u64::from(n) * u64::from(sigma);
     if a <= b {
         return true;
     }
@@ -417,7 +446,7 @@ fn function_holds(n: u32, sum: i64, q: u64, sigma: u32) -> bool
 // ---- outcomes
 
 impl<'a> Sample<'a> {
-    // y' of a pair.
+    // y' of a pair. The pair's range is asked by a clause: a pair is a public value of any figures, and only one of the sample is known to be in range.
     fn measured(self, p: Pair) -> Standard
         requires { PairRanged p }
         ensures { result ≡ measured_of self.entry.basis.edition self.entry.basis.requirements.oxygen p }
@@ -426,7 +455,7 @@ impl<'a> Sample<'a> {
         standard_conditions(b.edition, b.requirements.oxygen, p.conditions, p.srm)
     }
 
-    // c of a pair.
+    // c of a pair, whose range is asked as for y'.
     fn fitted_value(self, l: Line, p: Pair) -> Standard
         requires { LineRanged l × PairRanged p }
         ensures { result ≡ c_of self.entry.basis.edition self.entry.basis.requirements.oxygen l p }
@@ -447,7 +476,6 @@ impl<'a> Sample<'a> {
 
     // Whether the y' differ by less than 15 % of the limit.
     fn is_flat(self) -> bool
-        requires { 0 < length self.pairs.now }
         ensures { result ≡ flat_of self.entry.basis.edition self.entry.basis.requirements self.entry.pairs.now }
     {
         let first = self.measured(self.pairs[0]);
@@ -458,7 +486,8 @@ impl<'a> Sample<'a> {
         for p in self.pairs {
             s = widened(s, self.measured(*p));
         }
-        100 * (s.high.0 as i64 - s.low.0 as i64) < 15 * (self.basis.requirements.limit as i64)
+        let width = i64::from(s.high.0) - i64::from(s.low.0);
+        100 * width < 15 * i64::from(self.basis.requirements.limit)
     }
 
     // Whether some y' or c is beyond ±10,000,000. By a loop: with `any` it is left open that each pair is in range.
@@ -475,7 +504,7 @@ impl<'a> Sample<'a> {
     }
 
     fn residuals(self, l: Line) -> Residuals
-        requires { (0 < length self.pairs.now) × LineRanged l × (some_beyond self.basis.edition self.basis.requirements.oxygen l self.pairs.now ≡ false) }
+        requires { LineRanged l × (some_beyond self.basis.edition self.basis.requirements.oxygen l self.pairs.now ≡ false) }
         ensures { result ≡ residuals_of self.entry.basis.edition self.entry.basis.requirements.oxygen l self.entry.pairs.now }
     {
         let mut r = Residuals {
@@ -491,7 +520,7 @@ impl<'a> Sample<'a> {
 
     // A function stands: refused where a figure is far out, or the figures and the verdict.
     fn line_fits(self, l: Line) -> Result<Figures, Refusal>
-        requires { (0 < length self.pairs.now) × LineRanged l }
+        requires { LineRanged l }
         ensures { fitted result ≡ line_fits self.entry.basis.edition self.entry.basis.requirements self.entry.pairs.now l }
     {
         if self.beyond(l) {
@@ -504,7 +533,7 @@ impl<'a> Sample<'a> {
             passed: varied(
                 100000000,
                 n * (n - 1),
-                q.uncertainty as u32,
+                q.uncertainty.cast_unsigned(),
                 k_factor(n),
                 dispersion(n, r),
             ),
@@ -516,24 +545,28 @@ impl<'a> Sample<'a> {
 
     // From the sums on: the divisor, the slope, then the function.
     fn fit_from(self, z: i32, u: Sums) -> Result<Figures, Refusal>
-        requires { (0 < length self.pairs.now) × ZRanged z × SumsRanged u × (0 < u.n) }
+        requires { ZRanged z × SumsRanged u × (0 < u.n) }
         ensures { fitted result ≡ fit_from self.entry.basis.edition self.entry.basis.requirements z self.entry.pairs.now u }
     {
         let edition = self.basis.edition;
-        let flat = self.is_flat();
-        let d = divisor(flat, u, z);
+        let r = Regression {
+            flat: self.is_flat(),
+            sums: u,
+            z,
+        };
+        let d = r.divisor();
         if d <= 0 {
             return Err(Refusal::Divisor);
         }
-        let Some(slope) = slope(edition, rise(flat, u), d) else {
+        let Some(slope) = slope(edition, r.rise(), d) else {
             return Err(Refusal::Slope);
         };
-        let intercept = intercept(edition, flat, u, z, slope);
+        let intercept = r.intercept(edition, slope);
         self.line_fits(Line { slope, intercept })
     }
 }
 
-// The calibration's outcome.
+// The calibration's outcome. The pairs and their basis come side by side, since that is what callers lend; a `Sample` is made of them when the count is known.
 pub fn fit(pairs: &[Pair], b: Basis, z: i32) -> Result<Figures, Refusal>
     requires { (length pairs.now ≤ 30) × AllRanged pairs.now × RequirementsRanged b.requirements × ZRanged z }
     ensures { fitted result ≡ fit_of b.edition b.requirements z pairs.now }
@@ -545,7 +578,7 @@ pub fn fit(pairs: &[Pair], b: Basis, z: i32) -> Result<Figures, Refusal>
     sample.fit_from(z, sample.sums())
 }
 
-// The annual test's outcome, of the function in force.
+// The annual test's outcome, of the function in force. The pairs and their basis come side by side, as for `fit`.
 pub fn annual_test(pairs: &[Pair], b: Basis, l: Line) -> Result<Verdicts, Refusal>
     requires { (length pairs.now ≤ 30) × AllRanged pairs.now × RequirementsRanged b.requirements × LineRanged l }
     ensures { tested result ≡ test_of b.edition b.requirements l pairs.now }
@@ -560,7 +593,7 @@ pub fn annual_test(pairs: &[Pair], b: Basis, l: Line) -> Result<Verdicts, Refusa
     }
     let r = sample.residuals(l);
     let dispersed = dispersion(n, r);
-    let sigma = b.requirements.uncertainty as u32;
+    let sigma = b.requirements.uncertainty.cast_unsigned();
     Ok(Verdicts {
         variability: varied(
             400000000,
@@ -575,13 +608,13 @@ pub fn annual_test(pairs: &[Pair], b: Basis, l: Line) -> Result<Verdicts, Refusa
 
 // ---- a lent list of pairs
 
-fn all_ranged(pairs: &[Pair]) -> bool
+pub fn all_ranged(pairs: &[Pair]) -> bool
     ensures { result ≡ list_all pair_ranged_of pairs.now }
 {
     pairs.iter().all(|p| pair_ranged(*p))
 }
 
-// The calibration's outcome, from a lent list of pairs of any length: the edition, the ranges, the count, then the fit.
+// The calibration's outcome, from a lent list of pairs of any length: the edition, the ranges, the count, then the fit. Pairs and basis come side by side, as for `fit`.
 pub fn fit_list(pairs: &[Pair], b: Basis, z: i32) -> Result<Figures, Refusal>
     ensures { fitted result ≡ fit_list_of b z pairs.now }
 {

@@ -4,3 +4,4 @@ pub mod RoundingCases
 pub mod StandingLaws
 pub mod ChartLaws
 pub mod ChartCases
+pub mod CastLaws

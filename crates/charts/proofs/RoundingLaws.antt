@@ -126,33 +126,28 @@ near_halved e n m h =
     r : ℕ
     r = nat_abs (n -ℤ q *ℤ pos m)
 
+-- the same without a sign
+halved_parts : {n : ℤ} {m : ℕ} {q : ℤ} → Halved n m q
+    → (2 * (up q * m) + 2 * dn n ≤ 2 * up n + 2 * (dn q * m) + m) × (2 * up n + 2 * (dn q * m) ≤ 2 * (up q * m) + 2 * dn n + m)
+halved_parts {n} {m} {q} H =
+    let f₁ = prod q (pos m) in
+    let f₂ = prod (pos 2) (q *ℤ pos m) in
+    let f₃ = prod (pos 2) n in
+    let f₄ = sum (pos 2 *ℤ n) (pos m) in
+    let f₅ = sum (pos 2 *ℤ (q *ℤ pos m)) (pos m) in
+    (omega (arith, le_ud H.low), omega (arith, le_ud H.high))
+
 -- of numbers nearest to n ≤ n' the first is over the second by one at most
 halved_order : {n n' : ℤ} {m : ℕ} {p q : ℤ} → 0 < m → n ≤ℤ n' → Halved n m p → Halved n' m q → up p + dn q ≤ dn p + up q + 1
 halved_order {n} {n'} {m} {p} {q} h k P Q =
-    let f₁ = prod p (pos m) in
-    let f₂ = prod (pos 2) (p *ℤ pos m) in
-    let f₃ = prod q (pos m) in
-    let f₄ = prod (pos 2) (q *ℤ pos m) in
-    let f₅ = prod (pos 2) n in
-    let f₆ = prod (pos 2) n' in
-    let f₇ = sum (pos 2 *ℤ n) (pos m) in
-    let f₈ = sum (pos 2 *ℤ (q *ℤ pos m)) (pos m) in
-    let l : (up p + dn q) * m < (dn p + up q + 2) * m = omega (arith, le_ud P.low, le_ud Q.high, le_ud k) in
+    let l : (up p + dn q) * m < (dn p + up q + 2) * m = omega (arith, halved_parts P, halved_parts Q, le_ud k) in
     omega (arith, lt_of_mul-lt-mul_right m l)
 
 -- and by one only where n is n'
 halved_same : {n n' : ℤ} {m : ℕ} {p q : ℤ} → n ≤ℤ n' → Halved n m p → Halved n' m q → up p + dn q ≡ dn p + up q + 1 → n ≡ n'
 halved_same {n} {n'} {m} {p} {q} k P Q e =
-    let f₁ = prod p (pos m) in
-    let f₂ = prod (pos 2) (p *ℤ pos m) in
-    let f₃ = prod q (pos m) in
-    let f₄ = prod (pos 2) (q *ℤ pos m) in
-    let f₅ = prod (pos 2) n in
-    let f₆ = prod (pos 2) n' in
-    let f₇ = sum (pos 2 *ℤ n) (pos m) in
-    let f₈ = sum (pos 2 *ℤ (q *ℤ pos m)) (pos m) in
     let g = ap (λ (k : ℕ). k * m) e in
-    ud_eq (omega (arith, le_ud P.low, le_ud Q.high, le_ud k))
+    ud_eq (omega (arith, halved_parts P, halved_parts Q, le_ud k))
 
 -- ---- what callers use
 
@@ -161,17 +156,8 @@ near_half_bound e n (negsuc m) h = absurd h.lt
 near_half_bound e n (pos m) h =
     let q = near_of e n (pos m) in
     let N = near_halved e n m (omega (arith, lt_ud h)) in
-    let f₁ = prod q (pos m) in
-    let f₂ = prod (pos 2) (q *ℤ pos m) in
-    let f₃ = sum (pos 2 *ℤ (q *ℤ pos m)) (pos m) in
-    let f₄ = prod (pos 2) n in
-    let f₅ = sum (pos 2 *ℤ n) (pos m) in
-    let f₆ = diff (q *ℤ pos m) n in
     let z = pos 2 *ℤ (q *ℤ pos m -ℤ n) in
-    let g₁ = prod (pos 2) (q *ℤ pos m -ℤ n) in
-    let g₂ = abs_ud z in
-    let g₃ = one_zero z in
-    omega (arith, le_ud N.low, le_ud N.high)
+    omega (arith, halved_parts N, prod q (pos m), diff (q *ℤ pos m) n, prod (pos 2) (q *ℤ pos m -ℤ n), abs_ud z, one_zero z)
 
 -- a larger numerator has no smaller nearest number: one edition rounds one number in one way
 pub near_mono : (e : ℕ) {n n' : ℤ} (d : ℤ) → pos 0 <ℤ d → n ≤ℤ n' → near_of e n d ≤ℤ near_of e n' d
@@ -200,15 +186,9 @@ pub near_whole : (e : ℕ) (q d : ℤ) → pos 0 <ℤ d → near_of e (q *ℤ d)
 near_whole e q (negsuc m) h = absurd h.lt
 near_whole e q (pos m) h =
     let p = near_of e (q *ℤ pos m) (pos m) in
-    let N = near_halved e (q *ℤ pos m) m (omega (arith, lt_ud h)) in
-    let f₁ = prod p (pos m) in
-    let f₂ = prod (pos 2) (p *ℤ pos m) in
-    let f₃ = prod q (pos m) in
-    let f₄ = prod (pos 2) (q *ℤ pos m) in
-    let f₅ = sum (pos 2 *ℤ (q *ℤ pos m)) (pos m) in
-    let f₆ = sum (pos 2 *ℤ (p *ℤ pos m)) (pos m) in
-    let a : (up p + dn q) * m < (dn p + up q + 1) * m = omega (arith, le_ud N.low, lt_ud h) in
-    let b : (up q + dn p) * m < (dn q + up p + 1) * m = omega (arith, le_ud N.high, lt_ud h) in
+    let N = halved_parts (near_halved e (q *ℤ pos m) m (omega (arith, lt_ud h))) in
+    let a : (up p + dn q) * m < (dn p + up q + 1) * m = omega (arith, N, prod q (pos m), lt_ud h) in
+    let b : (up q + dn p) * m < (dn q + up p + 1) * m = omega (arith, N, prod q (pos m), lt_ud h) in
     ud_eq (omega (arith, lt_of_mul-lt-mul_right m a, lt_of_mul-lt-mul_right m b))
 
 -- |n| at most k·d makes |near| at most k
@@ -216,14 +196,9 @@ pub near_bound : (e : ℕ) (n d : ℤ) (k : ℕ) → pos 0 <ℤ d → nat_abs n 
 near_bound e n (negsuc m) k h b = absurd h.lt
 near_bound e n (pos m) k h b =
     let q = near_of e n (pos m) in
-    let N = near_halved e n m (omega (arith, lt_ud h)) in
-    let f₁ = prod q (pos m) in
-    let f₂ = prod (pos 2) (q *ℤ pos m) in
-    let f₃ = prod (pos 2) n in
-    let f₄ = sum (pos 2 *ℤ n) (pos m) in
-    let f₅ = sum (pos 2 *ℤ (q *ℤ pos m)) (pos m) in
-    let a : up q * m < (k + dn q + 1) * m = omega (arith, le_ud N.low, lt_ud h, abs_ud n, one_zero n) in
-    let c : dn q * m < (k + up q + 1) * m = omega (arith, le_ud N.high, lt_ud h, abs_ud n, one_zero n) in
+    let N = halved_parts (near_halved e n m (omega (arith, lt_ud h))) in
+    let a : up q * m < (k + dn q + 1) * m = omega (arith, N, lt_ud h, abs_ud n, one_zero n) in
+    let c : dn q * m < (k + up q + 1) * m = omega (arith, N, lt_ud h, abs_ud n, one_zero n) in
     omega (arith, lt_of_mul-lt-mul_right m a, lt_of_mul-lt-mul_right m c, abs_ud q, one_zero q)
 
 near_zero : (e m : ℕ) → pos 0 <ℤ pos m → near_of e (pos 0) (pos m) ≡ pos 0

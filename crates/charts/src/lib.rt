@@ -15,7 +15,8 @@ pub struct Division {
 }
 
 // The floor and the rest, with no test of a sign. The machine's remainder has the sign of n; with d added it is above 0 and below 2d for either sign,
-// and the quotient is one less for the d that was added.
+// and the quotient is one less for the d that was added. n and d stay two numbers, here and in `near`, and a clause asks the sign of d: both are public functions
+// of any numbers, and a fraction would be made by each caller only to be taken apart.
 pub fn divide(n: i64, d: i64) -> Division
     requires { (nat_abs n ≤ 2 ^ 62) × (pos 0 <ℤ d) × (nat_abs d ≤ 2 ^ 61) }
     ensures { result ≡ division_of n d }
@@ -28,6 +29,7 @@ pub fn divide(n: i64, d: i64) -> Division
 }
 
 // Whether there is such an edition. It stays a byte: a caller may tell any, and each has its answer.
+#[tactic(auto, using(std::proofs::lemmas::Bool::Decides::nat_tests), unfolding(crate::specs::Rounding::edition_known))]
 pub fn edition_known(edition: u8) -> bool
     ensures { result ≡ edition_known edition }
 {
@@ -51,7 +53,8 @@ pub fn near(edition: u8, n: i64, d: i64) -> i64
     ensures { result ≡ near_of edition n d }
 {
     let p = divide(n, d);
-    if rounds_up(edition, p.whole % 2 != 0, p.rest as u64, d as u64) {
+    let odd = p.whole % 2 != 0;
+    if rounds_up(edition, odd, p.rest.cast_unsigned(), d.cast_unsigned()) {
         return p.whole + 1;
     }
     p.whole
@@ -101,6 +104,7 @@ pub struct Alarms {
 }
 
 // A term is added to a sum: adds less takes.
+#[tactic(auto, using(crate::specs::CodeLaws::added_none, crate::specs::CodeLaws::added_kept))]
 fn add(u: Sum, adds: u64, takes: u64) -> Sum
     requires { (u.value ≤ 2 ^ 62) × (u.count < 4294967295) × (adds ≤ 2 ^ 62) }
     ensures { result ≡ added u (pos adds -ℤ pos takes) }
@@ -116,15 +120,16 @@ fn add(u: Sum, adds: u64, takes: u64) -> Sum
 }
 
 // The adjustment from a drift sum after a reading, 0 where it shows no alarm.
+#[tactic(auto, using(std::proofs::lemmas::Bool::Decides::nat_tests), unfolding(crate::specs::Charts::adjustment_of))]
 fn adjustment(edition: u8, u: Sum, s: u16) -> u64
     requires { (u.count ≤ 100000) × (u.value ≤ 800000000 * u.count) }
     ensures { result ≡ adjustment_of edition s u }
 {
-    let t = s as u64;
+    let t = u64::from(s);
     if u.value <= 2850 * t {
         return 0;
     }
-    let n = u.count as u64;
+    let n = u64::from(u.count);
     near_unsigned(edition, 7 * (501 * t * n + u.value), 10000 * n)
 }
 
@@ -133,7 +138,7 @@ fn raised(d: i32) -> u64
     requires { Ranged d }
     ensures { (pos result ≡ d +ℤ pos 800000) × (result ≤ 1200000) }
 {
-    (d as i64 + 800000) as u64
+    (i64::from(d) + 800000).cast_unsigned()
 }
 
 // A chart that was never reset.
@@ -164,7 +169,7 @@ impl Chart {
     {
         let x = raised(d);
         let step = x.abs_diff(raised(self.last));
-        let q = s as u64;
+        let q = u64::from(s);
         let slack = 501 * q;
         let rising = add(self.rising, 1000 * x, 800000000 + slack);
         let falling = add(self.falling, 800000000, 1000 * x + slack);
@@ -182,10 +187,11 @@ impl Chart {
     }
 
     // The three alarms: a sum over its limit, in a chart that is started.
+    #[tactic(auto, unfolding(crate::specs::Charts::alarms_of))]
     pub fn alarms(self, s: u16) -> Alarms
         ensures { result ≡ alarms_of self s }
     {
-        let q = s as u64;
+        let q = u64::from(s);
         let drift = 2850 * q;
         let spread = 138 * (q * q);
         Alarms {
@@ -217,11 +223,12 @@ pub fn ranged(d: i32) -> bool
 }
 
 // Whether a sum has at most as many terms as there are readings, and a value of at most `most` for each.
+#[tactic(auto, using(std::proofs::lemmas::Bool::Decides::nat_tests), unfolding(crate::specs::Soundness::within_of))]
 fn within(u: Sum, most: u64, readings: u32) -> bool
     requires { (most ≤ 14400000000000) × (readings ≤ 100000) }
     ensures { result ≡ within_of most readings u }
 {
-    u.count <= readings && u.value <= most * (u.count as u64)
+    u.count <= readings && u.value <= most * u64::from(u.count)
 }
 
 // The difference of a reading and its reference.

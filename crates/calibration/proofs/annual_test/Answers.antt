@@ -1,18 +1,18 @@
 -- `calibration::annual_test` meets its contract.
-use Rattle.std.proofs.Common.{◌≡◌, refl, sym, ap, ◌∙◌, ◌-◌, ◌*◌, ◌≤◌, true, false, ℕ, List, length, arith, mul-le-mul, w32, w64}
+use Rattle.std.proofs.Common.{◌≡◌, refl, sym, ap, ◌∙◌, ◌-◌, ◌*◌, ◌≤◌, true, false, List, length, arith, mul-le-mul, w64}
 use Rattle.std.specs.Prelude.{ℤ, pos, nat_abs}
-use mir.Val.{to_z, of_z}
+use mir.Val.{to_z}
 use Rattle.charts.specs.Integers.{abs_sfits}
 use Rattle.charts.specs.SignedLocals.{Loc, arg, cast_u}
 use Rattle.calibration.specs.Annual.{annual_count_fits, function_of}
 use Rattle.calibration.specs.Calibration.{some_beyond, deviations_of, q_of, residuals_of}
-use Rattle.calibration.specs.PairLaws.{sigma_need, sigma_reads, sigma_small, sigma_is}
 use Rattle.calibration.proofs.VerdictLaws.{Dispersed, dispersed, annual_count, test_unfit, test_beyond, test_stands}
 use Rattle.calibration.specs.declared.Basis.{Basis}
 use Rattle.calibration.specs.declared.Line.{Line}
 use Rattle.calibration.specs.declared.Pair.{Pair}
 use Rattle.calibration.specs.declared.Residuals.{Residuals}
-use Rattle.calibration.proofs.SampleLaws.{all_tested, required_tested}
+use Rattle.calibration.proofs.SampleLaws.{all_tested}
+use Rattle.calibration.proofs.WideLaws.{sigma_taken, taken_small}
 use Rattle.calibration.proofs.annual_test.Goals as goal
 
 -- ---- the count, the residuals and their sum
@@ -43,30 +43,19 @@ returns-then-beyond c =
     sym (test_beyond c.args.b.edition c.args.b.requirements c.args.l c.args.pairs.now (sym c.annual_count_fits.ensures ∙ c.if-not-annual_count_fits.false) (sym c.beyond.ensures ∙ c.if-beyond.true))
 
 pub invariant_of-sample : goal.invariant_of-sample
-invariant_of-sample c = record { few = c.requires.0; ranged = all_tested c.args.pairs.now c.requires.1; required = required_tested c.args.b.requirements c.requires.2 }
-
-pub residuals-r-requires : goal.residuals-r-requires
-residuals-r-requires c =
+invariant_of-sample c =
     let n = counted c.args.b c.args.l c.args.pairs.now (sym c.annual_count_fits.ensures ∙ c.if-not-annual_count_fits.false) in
-    (omega (arith, n), c.requires.3, sym c.beyond.ensures ∙ c.if-beyond.false)
+    record { some = omega (arith, n); few = c.requires.0; ranged = all_tested c.args.pairs.now c.requires.1; required = c.requires.2 }
 
 pub dispersion-dispersed-requires : goal.dispersion-dispersed-requires
 dispersion-dispersed-requires c =
     let s = spread c.args.b c.args.l c.args.pairs.now (sym c.annual_count_fits.ensures ∙ c.if-not-annual_count_fits.false) (sym c.beyond.ensures ∙ c.if-beyond.false) c.residuals-r.ensures in
     (c.requires.0, s.sum, s.squares, s.above)
 
-pub overflow_cast-sigma : goal.overflow_cast-sigma
-overflow_cast-sigma c = sigma_need c.requires.2
-
-pub overflow_sub-n : goal.overflow_sub-n
-overflow_sub-n c =
-    let n = counted c.args.b c.args.l c.args.pairs.now (sym c.annual_count_fits.ensures ∙ c.if-not-annual_count_fits.false) in
-    omega (arith, n)
-
 pub varied-requires : goal.varied-requires
 varied-requires c =
     let p = pairs c.args.b c.args.l c.args.pairs.now (sym c.annual_count_fits.ensures ∙ c.if-not-annual_count_fits.false) in
-    (omega arith, omega (arith, p), sigma_small c.requires.2, c.annual_k_factor.ensures.1)
+    (omega arith, omega (arith, p), taken_small c.requires.2 c.cast_unsigned-sigma.ensures, c.annual_k_factor.ensures.1)
 
 pub function_holds-requires : goal.function_holds-requires
 function_holds-requires c =
@@ -75,7 +64,7 @@ function_holds-requires c =
     let n = counted c.args.b c.args.l c.args.pairs.now F in
     let s = spread c.args.b c.args.l c.args.pairs.now F B c.residuals-r.ensures in
     let S = S c.args.b c.args.l c.args.pairs.now F B c.residuals-r.ensures in
-    (n.1, omega (arith, n), omega (arith, cast_u S, s.sum), omega (arith, ap nat_abs (c.dispersion-dispersed.ensures ∙ s.is), s.size), sigma_small c.requires.2)
+    (n.1, omega (arith, n), omega (arith, cast_u S, s.sum), omega (arith, ap nat_abs (c.dispersion-dispersed.ensures ∙ s.is), s.size), taken_small c.requires.2 c.cast_unsigned-sigma.ensures)
 
 pub returns : goal.returns
 returns c =
@@ -86,9 +75,7 @@ returns c =
     let B = sym c.beyond.ensures ∙ c.if-beyond.false in
     let s = spread b l ps F B c.residuals-r.ensures in
     let q = c.dispersion-dispersed.result in
-    test_stands b.edition b.requirements l ps (length ps) q (nat_abs b.requirements.uncertainty) F B refl (c.dispersion-dispersed.ensures ∙ s.is) (sigma_is c.requires.2)
-    c.varied.result (c.varied.ensures ∙ rw (sigma_reads c.requires.2, c.annual_k_factor.ensures.0))
+    test_stands b.edition b.requirements l ps (length ps) q c.cast_unsigned-sigma.result F B refl (c.dispersion-dispersed.ensures ∙ s.is) (sigma_taken c.requires.2 c.cast_unsigned-sigma.ensures)
+    c.varied.result (c.varied.ensures ∙ rw c.annual_k_factor.ensures.0)
     c.function_holds.result
-    (c.function_holds.ensures
-    ∙ ap (λ (z : ℤ). function_of (length ps) z (pos q) (pos (nat_abs (to_z w32 (of_z w32 b.requirements.uncertainty))))) (sum_is b l ps F B c.residuals-r.ensures)
-    ∙ ap (λ (k : ℕ). function_of (length ps) (residuals_of b.edition b.requirements.oxygen l ps).sum (pos q) (pos k)) (sigma_reads c.requires.2))
+    (c.function_holds.ensures ∙ ap (λ (z : ℤ). function_of (length ps) z (pos q) (pos c.cast_unsigned-sigma.result)) (sum_is b l ps F B c.residuals-r.ensures))

@@ -1,65 +1,48 @@
 -- `calibration::calibrated` meets its contract.
-use mathlib.Core.Path.{◌≡◌, ap, ◌∙◌}
-use native.Mathlib.Omega.{arith}
-use lib.IntN.{ℤ}
-use mir.Syntax.{w32, w64}
+use Rattle.std.proofs.Common.{◌≡◌, ap, ◌∙◌, arith, w32, w64}
+use Rattle.std.specs.Prelude.{ℕ, ℤ, pos}
+use mir.Val.{SFits}
 use Rattle.charts.specs.Integers.{ints, abs_sfits}
-use Rattle.charts.specs.SignedLocals.{Loc, arg, mul, mul_need, add, add_need, cast, cast_need}
-use Rattle.calibration.specs.Calibration.{calibrated_of}
-use Rattle.calibration.specs.PairLaws.{between_fits, wide, wide_need}
+use Rattle.charts.specs.SignedLocals.{Loc, arg, mul, add, add_need, cast_need, cast}
+use Rattle.calibration.specs.Calibration.{LineRanged, calibrated_of}
+use Rattle.calibration.specs.Pairs.{Between}
+use Rattle.calibration.specs.PairLaws.{between_fits, wide}
+use Rattle.calibration.specs.declared.Line.{Line}
 use Rattle.calibration.proofs.ConditionLaws.{bx_bound, line_bound, calibrated_bound}
 use Rattle.calibration.proofs.calibrated.Goals as goal
-use Rattle.calibration.proofs.calibrated.Lts as lts
-use Rattle.calibration.proofs.calibrated.Tie as tie
-use Rattle.calibration.proofs.calibrated.Reads as reads
-use Rattle.calibration.proofs.calibrated.Goals.{After-near-v, After-struct_told-2-1, Start}
 
-abbrev At-After-struct_told-1 : Type 0
-At-After-struct_told-1 = lts.After-struct_told tie.the-claims reads.Pre reads.Post
-
-module _ (c : Start) where
+module _ (l : Line) (x : ℤ) (Q : LineRanged l × Between (pos 0) (pos 400000) x) where
   abbrev A : Loc w64
-  A = arg c.args.l.intercept (between_fits tt c.requires.0.intercept)
-
-  abbrev B : Loc w64
-  B = wide c.args.l.slope (between_fits tt c.requires.0.slope)
-
-  abbrev X : Loc w64
-  X = wide c.args.x c.ranges.x
+  A = arg l.intercept (between_fits tt Q.0.intercept)
 
   abbrev BX : Loc w64
-  BX = mul B X (abs_sfits (omega (arith, bx_bound c.requires.0 c.requires.1)))
+  BX = mul (wide l.slope (between_fits tt Q.0.slope)) (wide x (between_fits tt Q.1)) (abs_sfits (omega (arith, bx_bound Q.0 Q.1)))
 
   abbrev S : Loc w64
-  S = add A BX (abs_sfits (omega (arith, line_bound c.requires.0 c.requires.1)))
+  S = add A BX (abs_sfits (omega (arith, line_bound Q.0 Q.1)))
 
-abbrev start : At-After-struct_told-1 → Start
-start c = c.before.before
-
-abbrev start₂ : After-struct_told-2-1 → Start
-start₂ c = start c.before.before
-
--- the result, and the same as i32
-is : (c : After-near-v) → let a = (start₂ c.before).args in c.near-v.result ≡ (calibrated_of a.edition a.l a.x).0
-unfolding calibrated_of
-is c = c.near-v.ensures ∙ rw (S (start₂ c.before)).reads
-
-abbrev Y : After-near-v → Loc w64
-Y c = arg c.near-v.result (record { sfits = c.near-v.type_inv })
-
-abbrev Z : After-near-v → Loc w32
-Z c =
-    let s = start₂ c.before in
-    cast w32 (Y c) (rw (is c) (abs_sfits (omega (arith, calibrated_bound s.args.edition s.args.l s.args.x s.requires.0 s.requires.1))))
+  -- the result fits i32
+  small : (edition : ℕ) {v : ℤ} → v ≡ (calibrated_of edition l x).0 → SFits w32 v
+  small edition e = rw e (abs_sfits (omega (arith, calibrated_bound edition l x Q.0 Q.1)))
 
 pub overflow_add-l : goal.overflow_add-l
-overflow_add-l c = add_need (A (start₂ c)) (BX (start₂ c)) (S (start₂ c)).fit
+overflow_add-l c =
+    let l = c.args.l in
+    let x = c.args.x in
+    let q = c.requires in
+    rw (c.from.ensures, c.from-2.ensures) (add_need (A l x q) (BX l x q) (S l x q).fit)
 
 pub near-v-requires : goal.near-v-requires
-near-v-requires c = rw (S (start₂ c)).reads (omega (arith, line_bound (start₂ c).requires.0 (start₂ c).requires.1), omega ints, omega arith)
+near-v-requires c = rw (c.from.ensures, c.from-2.ensures, (S c.args.l c.args.x c.requires).reads) (omega (arith, line_bound c.requires.0 c.requires.1), omega ints, omega arith)
 
 pub overflow_cast-result : goal.overflow_cast-result
-overflow_cast-result c = cast_need w32 (Y c) (Z c).fit
+unfolding calibrated_of
+overflow_cast-result c =
+    let e : c.near-v.result ≡ (calibrated_of c.args.edition c.args.l c.args.x).0 = c.near-v.ensures ∙ rw (c.from.ensures, c.from-2.ensures, (S c.args.l c.args.x c.requires).reads) in
+    cast_need w32 (arg {w = w64} c.near-v.result (record { sfits = c.near-v.type_inv })) (small c.args.l c.args.x c.requires c.args.edition e)
 
 pub returns : goal.returns
-returns c = ap (λ (z : ℤ). record { 0 = z }) ((Z c).reads ∙ is c)
+unfolding calibrated_of
+returns c =
+    let e : c.near-v.result ≡ (calibrated_of c.args.edition c.args.l c.args.x).0 = c.near-v.ensures ∙ rw (c.from.ensures, c.from-2.ensures, (S c.args.l c.args.x c.requires).reads) in
+    ap (λ (z : ℤ). record { 0 = z }) ((cast w32 (arg {w = w64} c.near-v.result (record { sfits = c.near-v.type_inv })) (small c.args.l c.args.x c.requires c.args.edition e)).reads ∙ e)

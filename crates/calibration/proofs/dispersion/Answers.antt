@@ -1,49 +1,48 @@
 -- `calibration::dispersion` meets its contract.
-use mathlib.Core.Path.{ap, ◌∙◌}
-use Prim.Native.Nat.{◌≤◌}
-use native.Mathlib.Omega.{arith}
-use lib.IntN.{pos, nat_abs, ◌-ℤ◌, ◌*ℤ◌}
-use lib.Signed.{yes_non_neg, pos-nat_abs}
-use mir.Syntax.{w64}
+use Rattle.std.proofs.Common.{◌≤◌, arith, w64}
+use Rattle.std.specs.Prelude.{ℕ, pos, nat_abs, ◌*ℤ◌}
 use Rattle.charts.specs.Integers.{abs_diff, abs_sfits}
-use Rattle.charts.specs.SignedLocals.{Loc, arg, lit, sub, sub_need, mul, mul_need, cast_u_need, cast_u}
+use Rattle.charts.specs.SignedLocals.{Loc, arg, lit, sub, sub_need, mul, mul_need}
 use Rattle.calibration.proofs.FitLaws.{product_size}
+use Rattle.charts.proofs.CastLaws.{unsigned}
+use Rattle.calibration.specs.declared.Residuals.{Residuals}
 use Rattle.calibration.proofs.dispersion.Goals as goal
-use Rattle.calibration.proofs.dispersion.Goals.{After-struct_told-2-1, Start}
 
-module _ (c : Start) where
-  abbrev N : Loc w64
-  N = lit c.args.n (omega (arith, c.requires.0))
+module _ (n : ℕ) (r : Residuals) (N : n ≤ 30) (S : nat_abs r.sum ≤ 600000000) (Q : nat_abs r.squares ≤ 12000000000000000) where
+  nq-small : nat_abs (pos n *ℤ r.squares) ≤ 360000000000000000
+  nq-small = product_size (pos n) r.squares N Q
 
-  abbrev Q : Loc w64
-  Q = arg c.args.r.squares (abs_sfits (omega (arith, c.requires.2)))
+  ss-small : nat_abs (r.sum *ℤ r.sum) ≤ 360000000000000000
+  ss-small = product_size r.sum r.sum S S
 
-  abbrev S : Loc w64
-  S = arg c.args.r.sum (abs_sfits (omega (arith, c.requires.1)))
+  abbrev count : Loc w64
+  count = lit n (omega (arith, N))
 
-  nq-small : nat_abs (N.num *ℤ Q.num) ≤ 360000000000000000
-  nq-small = product_size N.num Q.num c.requires.0 c.requires.2
-
-  ss-small : nat_abs (S.num *ℤ S.num) ≤ 360000000000000000
-  ss-small = product_size S.num S.num c.requires.1 c.requires.1
+  abbrev squares : Loc w64
+  squares = arg r.squares (abs_sfits (omega (arith, Q)))
 
   abbrev NQ : Loc w64
-  NQ = mul N Q (abs_sfits (omega (arith, nq-small)))
+  NQ = mul count squares (abs_sfits (omega (arith, nq-small)))
 
   abbrev SS : Loc w64
-  SS = mul S S (abs_sfits (omega (arith, ss-small)))
-
-  small : nat_abs (NQ.num -ℤ SS.num) ≤ 720000000000000000
-  small = omega (arith, abs_diff NQ.num SS.num, nq-small, ss-small)
+  SS = mul (arg r.sum (abs_sfits (omega (arith, S)))) (arg r.sum (abs_sfits (omega (arith, S)))) (abs_sfits (omega (arith, ss-small)))
 
   abbrev D : Loc w64
-  D = sub NQ SS (abs_sfits (omega (arith, small)))
+  D = sub NQ SS (abs_sfits (omega (arith, abs_diff NQ.num SS.num, nq-small, ss-small)))
 
-abbrev start : After-struct_told-2-1 → Start
-start c = c.before.before.before.before
+pub overflow_mul-from : goal.overflow_mul-from
+overflow_mul-from c =
+    let q = c.requires in
+    let a = c.args in
+    rw c.from.ensures (mul_need (count a.n a.r q.0 q.1 q.2) (squares a.n a.r q.0 q.1 q.2) (NQ a.n a.r q.0 q.1 q.2).fit)
 
-pub overflow_cast-result-2 : goal.overflow_cast-result-2
-overflow_cast-result-2 c = let s = start c in cast_u_need w64 (D s) s.requires.3 (omega (arith, small s))
+pub overflow_sub-from : goal.overflow_sub-from
+overflow_sub-from c =
+    let q = c.requires in
+    let a = c.args in
+    rw c.from.ensures (sub_need (NQ a.n a.r q.0 q.1 q.2) (SS a.n a.r q.0 q.1 q.2) (D a.n a.r q.0 q.1 q.2).fit)
 
 pub returns : goal.returns
-returns c = let s = start c in ap pos (cast_u (D s)) ∙ pos-nat_abs (D s).num (yes_non_neg s.requires.3)
+returns c =
+    let q = c.requires in
+    unsigned (D c.args.n c.args.r q.0 q.1 q.2) q.3 (rw c.from.ensures at c.cast_unsigned.ensures)

@@ -9,14 +9,14 @@ pub returns-then-a-b : goal.returns-then-a-b
 returns-then-a-b c =
     let a = c.args in
     let e : c.unsigned_abs-a.result ≡ nat_abs a.sum = search rules in
-    let h = c.if-a-b.true in
+    let h = rw (c.from.ensures, c.from-2.ensures) at c.if-a-b.true in
     sym (function_under a.n a.sum a.q a.sigma (omega arith))
 
 pub returns : goal.returns
 returns c =
     let a = c.args in
     let e : c.unsigned_abs-a.result ≡ nat_abs a.sum = search rules in
-    let h = c.if-a-b.false in
+    let h = rw (c.from.ensures, c.from-2.ensures) at c.if-a-b.false in
     c.covered.ensures
-    ∙ ap (λ (m : ℕ). leb ((a.n - 1) * ((m - a.n * a.sigma) * (m - a.n * a.sigma)) * 1000000) (t_of a.n * t_of a.n * a.q)) e
+    ∙ rw (c.from.ensures, c.from-2.ensures) (ap (λ (m : ℕ). leb ((a.n - 1) * ((m - a.n * a.sigma) * (m - a.n * a.sigma)) * 1000000) (t_of a.n * t_of a.n * a.q)) e)
     ∙ sym (function_over a.n a.sum a.q a.sigma (omega arith))

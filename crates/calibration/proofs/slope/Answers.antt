@@ -1,186 +1,117 @@
 -- `calibration::slope` meets its contract: the whole part and the rest by `divide`, what the rest gives by `near_unsigned`, and B from both.
-use borrow.Author.Rules.{rules}
-use mathlib.Core.Path.{◌≡◌, sym, ap, subst, ◌∙◌}
-use mathlib.Core.Bool.{true}
-use Rattle.std.proofs.Common.{Some}
-use Prim.Native.Nat.{ℕ, ◌*◌, ◌≤◌, ◌<◌}
-use native.Mathlib.Omega.{arith}
-use lib.Dec.{T, lit<}
-use lib.IntN.{ℤ, pos, neg_ℤ, nat_abs, ◌+ℤ◌, ◌*ℤ◌}
-use lib.Signed.{◌≤ℤ◌, ◌<ℤ◌}
-use mir.Syntax.{w32, w64}
-use mir.Val.{to_z}
-use Rattle.charts.specs.Integers.{abs_ud, one_zero, eq_ud, le_ud, lt_ud, ud_le, ud_eq, abs_sum, abs_prod, abs_sfits}
-use Rattle.charts.specs.SignedLocals.{Loc, arg, lit, add, add_need, mul, mul_need, cast, cast_need, cast_u_need, cast_u}
+use Rattle.std.proofs.Common.{rules, ◌≡◌, sym, ap, subst, ◌∙◌, true, Some, ℕ, ◌*◌, ◌≤◌, ◌<◌, arith, T, SFits, to_z-of_z, w32, w64}
+use Rattle.std.specs.Prelude.{Bool, ℤ, pos, neg_ℤ, nat_abs, ◌+ℤ◌, ◌*ℤ◌, ◌<ℤ◌}
+use lib.Dec.{lit<}
+use mir.Val.{to_z, of_z}
+use Rattle.charts.specs.Integers.{abs_ud, one_zero, eq_ud, le_ud, lt_ud, ud_le, abs_sum, abs_prod, abs_sfits}
+use Rattle.charts.specs.SignedLocals.{Loc, arg, lit, add, add_need, mul, cast, cast_need}
 use Rattle.charts.specs.Rounding.{near_of}
+use Rattle.charts.specs.Division.{Divided, division_of}
+use Rattle.charts.specs.declared.Division.{Division}
 use Rattle.charts.proofs.RoundingLaws.{division_parts}
-use Rattle.charts.specs.Division.{Divided}
 use Rattle.calibration.specs.Pairs.{Between, between_of, between_answers}
 use Rattle.calibration.specs.PairLaws.{between_abs, between_fits}
 use Rattle.calibration.specs.Calibration.{slope_ranged_of}
 use Rattle.calibration.specs.CodeLaws.{slope_parts, part_ranged, slope_far, slope_in, slope_out}
+use Rattle.charts.proofs.CastLaws.{signed, unsigned}
 use Rattle.calibration.proofs.slope.Goals as goal
-use Rattle.calibration.proofs.slope.Lts as lts
-use Rattle.calibration.proofs.slope.Tie as tie
-use Rattle.calibration.proofs.slope.Reads as reads
-use Rattle.calibration.proofs.slope.Goals.{After-between-2, After-divide-p, After-struct_told-3-1, Else-not-between-2, Start}
 
-abbrev At-After-between : Type 0
-At-After-between = lts.After-between tie.the-claims reads.Pre reads.Post
+-- a range test of a local, and what it says where it holds
+tested : (a b : ℤ) (A : Loc w64) {t : Bool} → t ≡ between_of a b (to_z w64 A.bits) → t ≡ between_of a b A.num
+tested a b A e = e ∙ ap (between_of a b) A.reads
 
-abbrev At-After-near_unsigned-part : Type 0
-At-After-near_unsigned-part = lts.After-near_unsigned tie.the-claims reads.Pre reads.Post
+inside : (a b z : ℤ) → between_of a b z ≡ true → Between a b z
+inside a b z e = (between_answers a b z).sure (subst T (sym e) tt)
 
-abbrev At-After-struct_told-2-1 : Type 0
-At-After-struct_told-2-1 = lts.After-struct_told2 tie.the-claims reads.Pre reads.Post
+-- the whole part and the rest
+parts : {rise divisor : ℤ} {p : Division} → pos 0 <ℤ divisor → SFits w64 rise → SFits w64 divisor → p ≡ division_of (to_z w64 (of_z w64 rise)) (to_z w64 (of_z w64 divisor))
+    → Divided rise divisor p.whole p.rest
+parts h R D e = division_parts h (rw (to_z-of_z {w = w64} R, to_z-of_z {w = w64} D) at e)
 
-abbrev At-Else-not-between : Type 0
-At-Else-not-between = lts.Else1 tie.the-claims reads.Pre reads.Post
-
-abbrev Hundred-thousand : Loc w64
-Hundred-thousand = lit 100000 (lit< tt)
-
-module _ (c : Start) where
-  abbrev M : Loc w64
-  M = arg c.args.rise c.ranges.rise
-
-  abbrev D : Loc w64
-  D = arg c.args.divisor c.ranges.divisor
-
-  d-pos : pos 0 <ℤ D.num
-  d-pos = c.requires.1
-
--- ---- the whole part and the rest
-module _ (c : After-divide-p) where
-  abbrev e : ℕ
-  e = c.before.args.edition
-
-  abbrev rise : ℤ
-  rise = c.before.args.rise
-
-  abbrev divisor : ℤ
-  divisor = c.before.args.divisor
-
-  abbrev whole : ℤ
-  whole = c.divide-p.result.whole
-
-  abbrev rest : ℤ
-  rest = c.divide-p.result.rest
-
-  parts : Divided rise divisor whole rest
-  parts = division_parts (d-pos c.before) (rw ((M c.before).reads, (D c.before).reads) at c.divide-p.ensures)
-
-  abbrev W : Loc w64
-  W = arg whole (search rules)
-
-  abbrev R : Loc w64
-  R = arg rest (search rules)
+module _ (edition : ℕ) {rise divisor whole rest : ℤ} (Q : (nat_abs rise ≤ 144000000000000) × (pos 0 <ℤ divisor) × (nat_abs divisor ≤ 144000000000000)) (D : Divided rise divisor whole rest) where
+  abbrev b : ℤ
+  b = near_of edition (pos 100000 *ℤ rise) divisor
 
   rest-small : nat_abs rest < 144000000000000
-  rest-small =
-      omega (arith, abs_ud rest, one_zero rest, le_ud parts.low, lt_ud parts.high, abs_ud divisor, one_zero divisor, c.before.requires.2)
+  rest-small = omega (arith, abs_ud rest, one_zero rest, le_ud D.low, lt_ud D.high, abs_ud divisor, one_zero divisor, Q.2)
 
-whole-tested : (c : At-After-between) → c.between.result ≡ between_of (neg_ℤ (pos 1)) (pos 10) (whole c.before.before)
-whole-tested c = c.between.ensures ∙ ap (between_of (neg_ℤ (pos 1)) (pos 10)) (W c.before.before).reads
+  -- the rest, unsigned
+  rest-is : {x : ℕ} → x ≡ of_z w64 (to_z w64 (of_z w64 rest)) → pos x ≡ rest
+  rest-is e = unsigned (arg {w = w64} rest (abs_sfits (omega (arith, rest-small)))) D.low e
+
+  divisor-is : {y : ℕ} → y ≡ of_z w64 (to_z w64 (of_z w64 divisor)) → pos y ≡ divisor
+  divisor-is e = unsigned (arg {w = w64} divisor (abs_sfits (omega (arith, Q.2)))) (ud_le (omega (arith, lt_ud Q.1))) e
+
+  -- what the rest gives, and B
+  module _ {x y r : ℕ} {s : ℤ} {t : Bool} (F : SFits w64 whole) (T : t ≡ between_of (neg_ℤ (pos 1)) (pos 10) (to_z w64 (of_z w64 whole))) (I : t ≡ true)
+      (X : x ≡ of_z w64 (to_z w64 (of_z w64 rest))) (Y : y ≡ of_z w64 (to_z w64 (of_z w64 divisor))) (N : pos r ≡ near_of edition (pos (100000 * x)) (pos y)) (S : s ≡ to_z w64 r) where
+    part-is : pos r ≡ near_of edition (pos 100000 *ℤ rest) divisor
+    part-is = N ∙ ap (λ (z : ℤ). near_of edition (pos 100000 *ℤ z) (pos y)) (rest-is X) ∙ ap (near_of edition (pos 100000 *ℤ rest)) (divisor-is Y)
+
+    part-small : r ≤ 100000
+    part-small = omega (arith, le_ud (part_ranged edition rise divisor Q.1 D).high, eq_ud part-is)
+
+    abbrev P : Loc w64
+    P = signed r (omega (arith, part-small)) S
+
+    whole-in : between_of (neg_ℤ (pos 1)) (pos 10) whole ≡ true
+    whole-in = sym (tested (neg_ℤ (pos 1)) (pos 10) (arg whole F) T) ∙ I
+
+    product-small : nat_abs (pos 100000 *ℤ whole) ≤ 1000000
+    product-small = omega (arith, abs_prod (pos 100000) whole, between_abs (inside (neg_ℤ (pos 1)) (pos 10) whole whole-in))
+
+    abbrev K : Loc w64
+    K = mul (lit 100000 (lit< tt)) (arg whole F) (abs_sfits (omega (arith, product-small)))
+
+    abbrev B : Loc w64
+    B = add K P (abs_sfits (omega (arith, abs_sum K.num P.num, product-small, part-small)))
+
+    b-is : B.num ≡ b
+    b-is = ap (λ (z : ℤ). pos 100000 *ℤ whole +ℤ z) part-is ∙ sym (slope_parts edition rise divisor Q.1 D)
+
+    module _ {u : Bool} (U : u ≡ between_of (pos 1) (pos 1000000) (to_z w64 B.bits)) where
+      b-tested : u ≡ slope_ranged_of b
+      b-tested = tested (pos 1) (pos 1000000) B U ∙ ap slope_ranged_of b-is
+
+      -- B as i32
+      abbrev Result : u ≡ true → Loc w32
+      Result e = cast w32 B (rw b-is (between_fits tt (inside (pos 1) (pos 1000000) b (sym b-tested ∙ e))))
 
 pub returns-then-not-between : goal.returns-then-not-between
 returns-then-not-between c =
-    let b = c.before in
-    let p = b.before.before in
-    let o = sym (whole-tested b) ∙ c.if-not-between.true in
-    sym (slope_far (e p) (rise p) (divisor p) (d-pos p.before) (parts p) o)
+    let a = c.args in
+    let D = parts c.requires.1 c.ranges.rise c.ranges.divisor c.divide-p.ensures in
+    let F : SFits w64 c.divide-p.result.whole = search rules in
+    sym (slope_far a.edition a.rise a.divisor c.requires.1 D (sym (tested (neg_ℤ (pos 1)) (pos 10) (arg c.divide-p.result.whole F) c.between.ensures) ∙ c.if-not-between.true))
 
-whole_ranged : (c : At-Else-not-between) → Between (neg_ℤ (pos 1)) (pos 10) (whole c.before.before.before)
-whole_ranged c =
-    let t = sym (whole-tested c.before) ∙ c.if-not-between.false in
-    (between_answers (neg_ℤ (pos 1)) (pos 10) (whole c.before.before.before)).sure (subst T (sym t) tt)
-
--- ---- what the rest gives
-abbrev after : At-After-struct_told-2-1 → After-divide-p
-after c = c.before.before.before.before.before
-
-pub overflow_cast-p : goal.overflow_cast-p
-overflow_cast-p c = let p = after c.before in cast_u_need w64 (R p) (parts p).low (omega (arith, rest-small p))
-
-pub overflow_mul-p : goal.overflow_mul-p
-overflow_mul-p c = let p = after c.before in omega (arith, cast_u (R p), rest-small p)
-
--- neither is below 0, so that their sizes are themselves
-sized : {z : ℤ} → pos 0 ≤ℤ z → pos (nat_abs z) ≡ z
-sized {z} h = ud_eq (omega (arith, le_ud h, abs_ud z, one_zero z))
-
-part-is : (c : At-After-near_unsigned-part)
-    → let p = after c.before in
-    pos c.near_unsigned-part.result ≡ near_of (e p) (pos 100000 *ℤ rest p) (divisor p)
-part-is c =
-    let p = after c.before in
-    c.near_unsigned-part.ensures
-    ∙ ap (λ (n : ℕ). near_of (e p) (pos (100000 * n)) (pos (nat_abs (to_z w64 (D p.before).bits)))) (cast_u (R p))
-    ∙ ap (λ (n : ℕ). near_of (e p) (pos (100000 * nat_abs (rest p))) (pos n)) (cast_u (D p.before))
-    ∙ ap (λ (z : ℤ). near_of (e p) (pos 100000 *ℤ z) (pos (nat_abs (divisor p)))) (sized (parts p).low)
-    ∙ ap (λ (z : ℤ). near_of (e p) (pos 100000 *ℤ rest p) z) (sized (ud_le (omega (arith, lt_ud (d-pos p.before)))))
-
--- ---- B
-module _ (c : After-struct_told-3-1) where
-  abbrev near : At-After-near_unsigned-part
-  near = c.before.before
-
-  abbrev from : After-divide-p
-  from = after near.before
-
-  part_small : near.near_unsigned-part.result ≤ 100000
-  part_small =
-      let B = part_ranged (e from) (rise from) (divisor from) (d-pos from.before) (parts from) in
-      omega (arith, le_ud B.high, eq_ud (part-is near))
-
-  abbrev P : Loc w64
-  P = lit near.near_unsigned-part.result (omega (arith, part_small))
-
-  product_small : nat_abs (pos 100000 *ℤ whole from) ≤ 1000000
-  product_small = omega (arith, abs_prod (pos 100000) (whole from), between_abs (whole_ranged near.before.before.before))
-
-  abbrev K : Loc w64
-  K = mul Hundred-thousand (W from) (abs_sfits (omega (arith, product_small)))
-
-  abbrev B : Loc w64
-  B = add K P (abs_sfits (omega (arith, abs_sum K.num P.num, product_small, part_small)))
-
-  b-is : B.num ≡ near_of (e from) (pos 100000 *ℤ rise from) (divisor from)
-  b-is =
-      ap (λ (z : ℤ). pos 100000 *ℤ whole from +ℤ z) (part-is near)
-      ∙ sym (slope_parts (e from) (rise from) (divisor from) (d-pos from.before) (parts from))
-
-pub overflow_cast-b : goal.overflow_cast-b
-overflow_cast-b c = (P c).fit
+pub overflow_mul-rest : goal.overflow_mul-rest
+overflow_mul-rest c =
+    let D = parts c.requires.1 c.ranges.rise c.ranges.divisor c.divide-p.ensures in
+    let e = rest-is c.args.edition c.requires D c.cast_unsigned-rest.ensures in
+    omega (arith, ap nat_abs e, rest-small c.args.edition c.requires D)
 
 pub overflow_add-b : goal.overflow_add-b
-overflow_add-b c = add_need (K c) (P c) (B c).fit
-
-b-tested : (c : After-between-2) → c.between-2.result ≡ between_of (pos 1) (pos 1000000) (B c.before).num
-b-tested c = c.between-2.ensures ∙ ap (between_of (pos 1) (pos 1000000)) (B c.before).reads
+overflow_add-b c =
+    let D = parts c.requires.1 c.ranges.rise c.ranges.divisor c.divide-p.ensures in
+    let F : SFits w64 c.divide-p.result.whole = search rules in
+    add_need (K c.args.edition c.requires D F c.between.ensures c.if-not-between.false c.cast_unsigned-rest.ensures c.cast_unsigned.ensures c.near_unsigned-part.ensures c.cast_signed.ensures) (P c.args.edition c.requires D F c.between.ensures c.if-not-between.false c.cast_unsigned-rest.ensures c.cast_unsigned.ensures c.near_unsigned-part.ensures c.cast_signed.ensures) (B c.args.edition c.requires D F c.between.ensures c.if-not-between.false c.cast_unsigned-rest.ensures c.cast_unsigned.ensures c.near_unsigned-part.ensures c.cast_signed.ensures).fit
 
 pub returns-then-not-between-2 : goal.returns-then-not-between-2
 returns-then-not-between-2 c =
-    let t = c.before in
-    let b = t.before in
-    let p = from b in
-    let o = ap slope_ranged_of (sym (b-is b)) ∙ sym (b-tested t) ∙ c.if-not-between-2.true in
-    sym (slope_out (e p) (rise p) (divisor p) o)
-
-b-ranged : (c : Else-not-between-2) → slope_ranged_of (B c.before.before).num ≡ true
-b-ranged c = sym (b-tested c.before) ∙ c.if-not-between-2.false
-
-abbrev Result : Else-not-between-2 → Loc w32
-Result c =
-    let b = B c.before.before in
-    cast w32 b (between_fits tt ((between_answers (pos 1) (pos 1000000) b.num).sure (subst T (sym (b-ranged c)) tt)))
+    let a = c.args in
+    let D = parts c.requires.1 c.ranges.rise c.ranges.divisor c.divide-p.ensures in
+    let F : SFits w64 c.divide-p.result.whole = search rules in
+    sym (slope_out a.edition a.rise a.divisor (sym (b-tested c.args.edition c.requires D F c.between.ensures c.if-not-between.false c.cast_unsigned-rest.ensures c.cast_unsigned.ensures c.near_unsigned-part.ensures c.cast_signed.ensures c.between-2.ensures) ∙ c.if-not-between-2.true))
 
 pub overflow_cast-result : goal.overflow_cast-result
-overflow_cast-result c = cast_need w32 (B c.before.before) (Result c).fit
+overflow_cast-result c =
+    let D = parts c.requires.1 c.ranges.rise c.ranges.divisor c.divide-p.ensures in
+    let F : SFits w64 c.divide-p.result.whole = search rules in
+    cast_need w32 (B c.args.edition c.requires D F c.between.ensures c.if-not-between.false c.cast_unsigned-rest.ensures c.cast_unsigned.ensures c.near_unsigned-part.ensures c.cast_signed.ensures) (Result c.args.edition c.requires D F c.between.ensures c.if-not-between.false c.cast_unsigned-rest.ensures c.cast_unsigned.ensures c.near_unsigned-part.ensures c.cast_signed.ensures c.between-2.ensures c.if-not-between-2.false).fit
 
 pub returns : goal.returns
 returns c =
-    let b = c.before.before in
-    let p = from b in
-    ap (λ (z : ℤ). Some z) ((Result c).reads ∙ b-is b)
-    ∙ sym (slope_in (e p) (rise p) (divisor p) (ap slope_ranged_of (sym (b-is b)) ∙ b-ranged c))
+    let a = c.args in
+    let D = parts c.requires.1 c.ranges.rise c.ranges.divisor c.divide-p.ensures in
+    let F : SFits w64 c.divide-p.result.whole = search rules in
+    ap (λ (z : ℤ). Some z) ((Result c.args.edition c.requires D F c.between.ensures c.if-not-between.false c.cast_unsigned-rest.ensures c.cast_unsigned.ensures c.near_unsigned-part.ensures c.cast_signed.ensures c.between-2.ensures c.if-not-between-2.false).reads ∙ (b-is c.args.edition c.requires D F c.between.ensures c.if-not-between.false c.cast_unsigned-rest.ensures c.cast_unsigned.ensures c.near_unsigned-part.ensures c.cast_signed.ensures)) ∙ sym (slope_in a.edition a.rise a.divisor (sym (b-tested c.args.edition c.requires D F c.between.ensures c.if-not-between.false c.cast_unsigned-rest.ensures c.cast_unsigned.ensures c.near_unsigned-part.ensures c.cast_signed.ensures c.between-2.ensures) ∙ c.if-not-between-2.false))

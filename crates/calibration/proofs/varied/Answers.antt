@@ -1,26 +1,15 @@
 -- `calibration::varied` meets its contract.
-use Prim.Native.Nat.{◌*◌, ◌≤◌}
-use native.Mathlib.Omega.{arith}
-use native.Mathlib.Nat.{mul-le-mul}
+use Rattle.std.proofs.Common.{◌*◌, ◌≤◌, arith, ℕ, mul-le-mul}
 use Rattle.calibration.specs.CodeLaws.{divided}
 use Rattle.calibration.proofs.varied.Goals as goal
-use Rattle.calibration.proofs.varied.Goals.{Start}
 
-module _ (c : Start) where
-  s-small : c.args.sigma * c.args.sigma ≤ 100000000
-  s-small = mul-le-mul {n₂ = 10000} {m₂ = 10000} (omega arith) (omega arith)
-
-  k-small : c.args.k * c.args.k ≤ 100000000
-  k-small = mul-le-mul {n₂ = 10000} {m₂ = 10000} (omega arith) (omega arith)
-
-  m-small : c.args.m * (c.args.sigma * c.args.sigma) ≤ 87000000000
-  m-small = mul-le-mul {n₂ = 870} {m₂ = 100000000} (omega arith) s-small
-
-  right-small : c.args.m * (c.args.sigma * c.args.sigma) * (c.args.k * c.args.k) ≤ 8700000000000000000
-  right-small = mul-le-mul {n₂ = 87000000000} {m₂ = 100000000} m-small k-small
+right-small : {m s k : ℕ} → m ≤ 870 → s ≤ 10000 → k ≤ 10000 → m * (s * s) * (k * k) ≤ 8700000000000000000
+right-small M S K = mul-le-mul {n₂ = 87000000000} {m₂ = 100000000} (mul-le-mul {n₂ = 870} {m₂ = 100000000} M (mul-le-mul {n₂ = 10000} {m₂ = 10000} S S)) (mul-le-mul {n₂ = 10000} {m₂ = 10000} K K)
 
 pub overflow_mul-result-4 : goal.overflow_mul-result-4
-overflow_mul-result-4 c = omega (arith, right-small c)
+overflow_mul-result-4 c = rw (c.from.ensures, c.from-s.ensures, c.from-f.ensures) (omega (arith, right-small c.requires.1 c.requires.2 c.requires.3))
 
 pub returns : goal.returns
-returns c = let a = c.args in divided a.scale a.q (a.m * (a.sigma * a.sigma) * (a.k * a.k)) c.requires.0
+returns c =
+    let a = c.args in
+    rw (c.from.ensures, c.from-s.ensures, c.from-f.ensures) (divided a.scale a.q (a.m * (a.sigma * a.sigma) * (a.k * a.k)) c.requires.0)

@@ -35,17 +35,17 @@ pub overflow_mul-result : goal.overflow_mul-result
 overflow_mul-result c =
     let q = c.requires in
     let a = c.args in
-    mul_need (D a.r a.y a.c q.0 q.1 q.2 q.3) (D a.r a.y a.c q.0 q.1 q.2 q.3) (DD a.r a.y a.c q.0 q.1 q.2 q.3).fit
+    rw (c.from.ensures, c.from-2.ensures) (mul_need (D a.r a.y a.c q.0 q.1 q.2 q.3) (D a.r a.y a.c q.0 q.1 q.2 q.3) (DD a.r a.y a.c q.0 q.1 q.2 q.3).fit)
 
 pub overflow_add-result-2 : goal.overflow_add-result-2
 overflow_add-result-2 c =
     let q = c.requires in
     let a = c.args in
-    add_need (squares a.r a.y a.c q.0 q.1 q.2 q.3) (DD a.r a.y a.c q.0 q.1 q.2 q.3) (squares₁ a.r a.y a.c q.0 q.1 q.2 q.3).fit
+    rw (c.from.ensures, c.from-2.ensures) (add_need (squares a.r a.y a.c q.0 q.1 q.2 q.3) (DD a.r a.y a.c q.0 q.1 q.2 q.3) (squares₁ a.r a.y a.c q.0 q.1 q.2 q.3).fit)
 
 pub returns : goal.returns
 unfolding with_residual_of
 returns c =
     let q = c.requires in
     let a = c.args in
-    rw (c.max.ensures, max_is a.r.most a.c, (sum₁ a.r a.y a.c q.0 q.1 q.2 q.3).reads, (squares₁ a.r a.y a.c q.0 q.1 q.2 q.3).reads)
+    rw (c.max.ensures, max_is a.r.most a.c, c.from.ensures, c.from-2.ensures, (sum₁ a.r a.y a.c q.0 q.1 q.2 q.3).reads, (squares₁ a.r a.y a.c q.0 q.1 q.2 q.3).reads)

@@ -9,7 +9,7 @@ use lib.Signed.{quot_z, rem_z, ◌<ℤ◌}
 use mir.Syntax.{Width, w64}
 use mir.Val.{SFits, to_z}
 use Rattle.charts.specs.Integers.{abs_sum, abs_diff, abs_sfits}
-use Rattle.charts.specs.SignedLocals.{Loc, arg, lit, on, cast_u, add, add_need, sub, sub_need, div_need, quot, rem}
+use Rattle.charts.specs.SignedLocals.{Loc, arg, lit, on, cast_u, add, add_need, sub, quot, rem}
 use Rattle.charts.proofs.RoundingLaws.{abs_quot, abs_rem, quot_once, divided_raised, division_unique}
 use Rattle.charts.proofs.divide.Goals as goal
 use Rattle.charts.proofs.divide.Goals.{Start}
@@ -46,9 +46,6 @@ module _ (c : Start) where
   plus-fits : (A : Loc w64) → nat_abs A.num ≤ nat_abs D.num → SFits w64 (plus A)
   plus-fits A h = abs_sfits (omega (arith, plus-small A h, c.requires.2))
 
-pub nonzero_rem-r : goal.nonzero_rem-r
-nonzero_rem-r c = div_need (N c) (D c) (d-pos c)
-
 -- safe with d added, and it would be with 0 (the must-fail edit `remainder_below_zero`): only the equation tells the two apart
 pub overflow_add-r : goal.overflow_add-r
 overflow_add-r c = search (plus-fits c (D c) (omega arith), plus-fits c Zero (omega arith))
@@ -71,20 +68,8 @@ module _ (c : Start) where
       add Q (quot R (D c) (d-pos c))
       (abs_sfits (omega (arith, abs_sum Q.num (quot_z R.num (D c).num), q-small, quot_once R.num (D c).num (d-pos c) r_small)))
 
-pub nonzero_div-result : goal.nonzero_div-result
-nonzero_div-result c = div_need (N c) (D c) (d-pos c)
-
-pub overflow_sub-result : goal.overflow_sub-result
-overflow_sub-result c = sub_need (quot (N c) (D c) (d-pos c)) One (Q c).fit
-
-pub nonzero_div-result-2 : goal.nonzero_div-result-2
-nonzero_div-result-2 c = div_need (R c) (D c) (d-pos c)
-
 pub overflow_add-result : goal.overflow_add-result
 overflow_add-result c = add_need (Q c) (quot (R c) (D c) (d-pos c)) (W c).fit
-
-pub nonzero_rem-result : goal.nonzero_rem-result
-nonzero_rem-result c = div_need (R c) (D c) (d-pos c)
 
 pub returns : goal.returns
 returns c =

@@ -1,36 +1,17 @@
 -- `charts::near` meets its contract: the floor and the rest by `divide`, and the test of a half.
-use mathlib.Core.Path.{◌≡◌, refl, sym, ap, ◌∙◌}
-use mathlib.Core.Bool.{Bool, not}
-use Prim.Native.Nat.{ℕ, zero, suc, ◌≤◌, ◌<◌, ◌^◌}
-use native.Mathlib.Omega.{arith}
-use borrow.Author.Rules.{rules}
-use lib.Dec.{lit<, eqb}
-use lib.IntN.{ℤ, pos, negsuc, nat_abs, ◌+ℤ◌}
-use lib.Signed.{rem_z, ◌<ℤ◌, lt_z_yes}
-use mir.Syntax.{w64}
+use Rattle.std.proofs.Common.{rules, ◌≡◌, refl, sym, ap, ◌∙◌, not, true, false, ℕ, zero, suc, ◌≤◌, ◌<◌, ◌^◌, arith, SFits, to_z-of_z, w64}
+use Rattle.std.specs.Prelude.{Bool, eqb, ℤ, pos, negsuc, nat_abs, ◌+ℤ◌, ◌<ℤ◌}
+use Rattle.std.specs.Int.Signed.{rem_z, lt_z_yes}
+use lib.Dec.{lit<}
 use mir.Val.{to_z, of_z}
 use Rattle.charts.specs.Integers.{abs_ud, one_zero, ud_le, le_ud, lt_ud, abs_sfits}
-use Rattle.charts.specs.SignedLocals.{Loc, arg, lit, on, add, add_need, rem, div_need, cast_u, cast_u_need}
+use Rattle.charts.specs.SignedLocals.{Loc, arg, lit, on, add, add_need, rem}
 use Rattle.charts.specs.Rounding.{odd, rounds_up, near_of}
+use Rattle.charts.specs.Division.{Divided, division_of}
+use Rattle.charts.specs.declared.Division.{Division}
+use Rattle.charts.proofs.CastLaws.{unsigned}
 use Rattle.charts.proofs.RoundingLaws.{abs_rem, odd_signed, near_up, near_down, near_bound, division_parts}
-use Rattle.charts.specs.Division.{Divided}
 use Rattle.charts.proofs.near.Goals as goal
-use Rattle.charts.proofs.near.Lts as lts
-use Rattle.charts.proofs.near.Tie as tie
-use Rattle.charts.proofs.near.Reads as reads
-use Rattle.charts.proofs.near.Goals.{Start}
-
-abbrev At-After-divide-p : Type 0
-At-After-divide-p = lts.After-divide tie.the-claims reads.Pre reads.Post
-
-abbrev At-After-rounds_up : Type 0
-At-After-rounds_up = lts.After-rounds_up tie.the-claims reads.Pre reads.Post
-
-abbrev At-After-struct_told-2-1 : Type 0
-At-After-struct_told-2-1 = lts.After-struct_told2 tie.the-claims reads.Pre reads.Post
-
-abbrev At-Then-rounds_up : Type 0
-At-Then-rounds_up = lts.Then1 tie.the-claims reads.Pre reads.Post
 
 abbrev One : Loc w64
 One = lit 1 (lit< tt)
@@ -47,91 +28,66 @@ bit (pos n) h = refl
 bit (negsuc zero) h = refl
 bit (negsuc (suc n)) h = absurd (omega arith)
 
-module _ (c : Start) where
-  abbrev N : Loc w64
-  N = arg c.args.n c.ranges.n
+-- the whole part and the rest
+parts : {n d : ℤ} {p : Division} → pos 0 <ℤ d → SFits w64 n → SFits w64 d → p ≡ division_of (to_z w64 (of_z w64 n)) (to_z w64 (of_z w64 d)) → Divided n d p.whole p.rest
+parts h N D e = division_parts h (rw (to_z-of_z {w = w64} N, to_z-of_z {w = w64} D) at e)
 
-  abbrev D : Loc w64
-  D = arg c.args.d c.ranges.d
-
--- ---- after the division
-
-module _ (c : At-After-divide-p) where
-  abbrev n : ℤ
-  n = c.before.args.n
-
-  abbrev d : ℤ
-  d = c.before.args.d
-
-  abbrev whole : ℤ
-  whole = c.divide-p.result.whole
-
-  abbrev rest : ℤ
-  rest = c.divide-p.result.rest
-
-  d-pos : pos 0 <ℤ d
-  d-pos = c.before.requires.1
-
-  parts : Divided n d whole rest
-  parts = division_parts d-pos (rw ((N c.before).reads, (D c.before).reads) at c.divide-p.ensures)
-
-  abbrev W : Loc w64
-  W = arg whole (search rules)
-
-  abbrev R : Loc w64
-  R = arg rest (search rules)
-
+module _ (edition : ℕ) {n d whole rest : ℤ} (Q : (nat_abs n ≤ 2 ^ 62) × (pos 0 <ℤ d) × (nat_abs d ≤ 2 ^ 61)) (D : Divided n d whole rest) where
   rest-small : nat_abs rest < nat_abs d
-  rest-small = omega (arith, abs_ud rest, one_zero rest, le_ud parts.low, lt_ud parts.high, abs_ud d, one_zero d)
+  rest-small = omega (arith, abs_ud rest, one_zero rest, le_ud D.low, lt_ud D.high, abs_ud d, one_zero d)
 
-  near-small : nat_abs (near_of c.before.args.edition n d) ≤ 2 ^ 62
-  near-small = near_bound c.before.args.edition n d (2 ^ 62) d-pos (omega (arith, c.before.requires.0, lt_ud d-pos, abs_ud d))
+  -- the rest and the divisor, unsigned
+  rest-is : {r : ℕ} → r ≡ of_z w64 (to_z w64 (of_z w64 rest)) → r ≡ nat_abs rest
+  rest-is e = ap nat_abs (unsigned (arg {w = w64} rest (abs_sfits (omega (arith, rest-small, Q.2)))) D.low e)
 
-  odd_is : not (eqb (rem W Two two_pos).bits 0) ≡ odd whole
-  odd_is =
-      ap (λ (z : ℤ). not (eqb (of_z w64 z) 0)) (on W Two rem_z)
-      ∙ bit (rem_z whole (pos 2)) (omega (arith, abs_rem whole (pos 2) two_pos))
-      ∙ odd_signed whole
+  divisor-is : {m : ℕ} → m ≡ of_z w64 (to_z w64 (of_z w64 d)) → m ≡ nat_abs d
+  divisor-is e = ap nat_abs (unsigned (arg {w = w64} d (abs_sfits (omega (arith, Q.2)))) (ud_le (omega (arith, lt_ud Q.1))) e)
 
--- ---- at the test
+  module _ (F : SFits w64 whole) where
+    abbrev W : Loc w64
+    W = arg whole F
 
-abbrev after : At-After-struct_told-2-1 → At-After-divide-p
-after c = c.before.before.before.before
+    odd-is : not (eqb (rem W Two two_pos).bits 0) ≡ odd whole
+    odd-is =
+        ap (λ (z : ℤ). not (eqb (of_z w64 z) 0)) (on W Two rem_z)
+        ∙ bit (rem_z whole (pos 2)) (omega (arith, abs_rem whole (pos 2) two_pos))
+        ∙ odd_signed whole
 
-told : (c : At-After-rounds_up) → let p = after c.before in c.rounds_up.result ≡ rounds_up p.before.args.edition (odd (whole p)) (nat_abs (rest p)) (nat_abs (d p))
-told c =
-    let p = after c.before in
-    let e = p.before.args.edition in
-    c.rounds_up.ensures
-    ∙ ap (λ (o : Bool). rounds_up e o (nat_abs (to_z w64 (R p).bits)) (nat_abs (to_z w64 (D p.before).bits))) (odd_is p)
-    ∙ ap (λ (r : ℕ). rounds_up e (odd (whole p)) r (nat_abs (to_z w64 (D p.before).bits))) (cast_u (R p))
-    ∙ ap (λ (m : ℕ). rounds_up e (odd (whole p)) (nat_abs (rest p)) m) (cast_u (D p.before))
+    module _ {r m : ℕ} {t : Bool} (R : r ≡ of_z w64 (to_z w64 (of_z w64 rest))) (M : m ≡ of_z w64 (to_z w64 (of_z w64 d))) (T : t ≡ rounds_up edition (not (eqb (rem W Two two_pos).bits 0)) r m) where
+      told : t ≡ rounds_up edition (odd whole) (nat_abs rest) (nat_abs d)
+      told = T ∙ rw (odd-is, rest-is R, divisor-is M)
 
--- where it says so
-up : (c : At-Then-rounds_up) → let p = after c.before.before in whole p +ℤ pos 1 ≡ near_of p.before.args.edition (n p) (d p)
-up c = let p = after c.before.before in near_up p.before.args.edition (n p) (d p) (d-pos p) (parts p) (sym (told c.before) ∙ c.if-rounds_up.true)
+      up : t ≡ true → whole +ℤ pos 1 ≡ near_of edition n d
+      up u = near_up edition n d Q.1 D (sym told ∙ u)
 
-abbrev Next : At-Then-rounds_up → Loc w64
-Next c = let p = after c.before.before in add (W p) One (abs_sfits (rw (up c) (omega (arith, near-small p))))
+      down : t ≡ false → whole ≡ near_of edition n d
+      down u = near_down edition n d Q.1 D (sym told ∙ u)
 
--- ---- the needs
-
-pub overflow_cast-p : goal.overflow_cast-p
-overflow_cast-p c = let p = after c.before in cast_u_need w64 (R p) (parts p).low (omega (arith, rest-small p, p.before.requires.2))
+      abbrev Next : t ≡ true → Loc w64
+      Next u = add W One (abs_sfits (rw (up u) (omega (arith, near_bound edition n d (2 ^ 62) Q.1 (omega (arith, Q.0, lt_ud Q.1, abs_ud d))))))
 
 pub rounds_up-requires : goal.rounds_up-requires
-rounds_up-requires c = let p = after c.before in omega (arith, cast_u (R p), cast_u (D p.before), rest-small p)
+rounds_up-requires c =
+    let D = parts c.requires.1 c.ranges.n c.ranges.d c.divide-p.ensures in
+    let e = c.args.edition in
+    omega (arith, rest-is e c.requires D c.cast_unsigned.ensures, divisor-is e c.requires D c.cast_unsigned-2.ensures, rest-small e c.requires D)
 
 pub overflow_add-result : goal.overflow_add-result
 overflow_add-result c =
-    let t = c.before.before in
-    add_need (W (after t.before.before)) One (Next t).fit
+    let D = parts c.requires.1 c.ranges.n c.ranges.d c.divide-p.ensures in
+    let F : SFits w64 c.divide-p.result.whole = search rules in
+    add_need (arg c.divide-p.result.whole F) One (Next c.args.edition c.requires D F c.cast_unsigned.ensures c.cast_unsigned-2.ensures c.rounds_up.ensures c.if-rounds_up.true).fit
 
 pub returns-then-rounds_up : goal.returns-then-rounds_up
-returns-then-rounds_up c = let t = c.before.before in (Next t).reads ∙ up t
+returns-then-rounds_up c =
+    let D = parts c.requires.1 c.ranges.n c.ranges.d c.divide-p.ensures in
+    let F : SFits w64 c.divide-p.result.whole = search rules in
+    let e = c.args.edition in
+    (Next e c.requires D F c.cast_unsigned.ensures c.cast_unsigned-2.ensures c.rounds_up.ensures c.if-rounds_up.true).reads
+    ∙ up e c.requires D F c.cast_unsigned.ensures c.cast_unsigned-2.ensures c.rounds_up.ensures c.if-rounds_up.true
 
 pub returns : goal.returns
 returns c =
-    let t = c.before in
-    let p = after t.before.before in
-    (W p).reads ∙ near_down p.before.args.edition (n p) (d p) (d-pos p) (parts p) (sym (told t.before) ∙ t.if-rounds_up.false)
+    let D = parts c.requires.1 c.ranges.n c.ranges.d c.divide-p.ensures in
+    let F : SFits w64 c.divide-p.result.whole = search rules in
+    (arg {w = w64} c.divide-p.result.whole F).reads ∙ down c.args.edition c.requires D F c.cast_unsigned.ensures c.cast_unsigned-2.ensures c.rounds_up.ensures c.if-rounds_up.false

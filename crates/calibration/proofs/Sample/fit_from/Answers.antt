@@ -1,13 +1,15 @@
 -- `calibration::Sample::fit_from` meets its contract.
-use Rattle.std.proofs.Common.{◌≡◌, sym, ap, subst, ◌∙◌, T, true, arith, to_z-of_z, SFits, w32, w64, Some, List}
-use Rattle.std.specs.Prelude.{Bool, ℤ, pos, nat_abs, ◌≤ℤ◌, ◌<ℤ◌, Option}
+use Rattle.std.proofs.Common.{◌≡◌, sym, ap, subst, ◌∙◌, ◌<◌, T, true, false, arith, to_z-of_z, w32, w64, Some, None, List}
+use Rattle.std.specs.Prelude.{Bool, ℤ, pos, nat_abs, ◌≤ℤ◌, ◌<ℤ◌, ◌≤◌, Option}
+use Rattle.std.specs.Int.Signed.{mag, le_z}
 use lib.Dec.{lit<}
 use mir.Val.{to_z, of_z}
 use Rattle.charts.specs.SignedLocals.{Loc, arg, lit, le_true, le_false}
-use Rattle.calibration.specs.Pairs.{Between, between_answers}
+use Rattle.calibration.specs.Pairs.{Between, ZRanged, between_answers}
 use Rattle.calibration.specs.PairLaws.{between_fits}
-use Rattle.calibration.specs.Calibration.{flat_of, rise_of, divisor_of, intercept_of, slope_ranged_of, line_fits}
-use Rattle.calibration.specs.CodeLaws.{slope_code, slope_refused, slope_taken}
+use Rattle.calibration.specs.Outcomes.{refused_fit}
+use Rattle.calibration.specs.Calibration.{LineRanged, flat_of, rise_of, divisor_of, intercept_of, slope_ranged_of, line_fits, fit_from}
+use Rattle.calibration.specs.CodeLaws.{SumsRanged, slope_code, slope_refused, slope_taken}
 use Rattle.calibration.proofs.FitLaws.{rise_bound, divisor_bound, line_ranged}
 use Rattle.calibration.proofs.VerdictLaws.{divisor_by, slope_by, no_divisor, no_slope, a_line}
 use Rattle.calibration.specs.declared.Basis.{Basis}
@@ -15,16 +17,10 @@ use Rattle.calibration.specs.declared.Pair.{Pair}
 use Rattle.calibration.specs.declared.Sums.{Sums}
 use Rattle.calibration.proofs.Sample.fit_from.Goals as goal
 
-abbrev Zero : Loc w64
-Zero = lit 0 (lit< tt)
-
--- what the code works out is what the definition does
-module _ (b : Basis) (z : ℤ) (ps : List Pair) (u : Sums) (F : SFits w32 z) where
+-- ---- what the code works out is what the definition does: the branch and the divisor, then the rise, then the slope, then the intercept
+module _ (b : Basis) (z : ℤ) (ps : List Pair) (u : Sums) (Q : ZRanged z × SumsRanged u × (0 < u.n)) where
   abbrev flat : Bool
   flat = flat_of b.edition b.requirements ps
-
-  abbrev rise : ℤ
-  rise = rise_of flat u
 
   abbrev divisor : ℤ
   divisor = divisor_by b.edition b.requirements z ps u
@@ -33,119 +29,89 @@ module _ (b : Basis) (z : ℤ) (ps : List Pair) (u : Sums) (F : SFits w32 z) whe
   slope = slope_by b.edition b.requirements z ps u
 
   back : to_z w32 (of_z w32 z) ≡ z
-  back = to_z-of_z {w = w32} F
+  back = to_z-of_z {w = w32} (between_fits tt Q.0)
 
-  divisor-is : {f : Bool} {d : ℤ} → f ≡ flat → d ≡ divisor_of f u (to_z w32 (of_z w32 z)) → d ≡ divisor
-  divisor-is E D = D ∙ ap (λ (f : Bool). divisor_of f u (to_z w32 (of_z w32 z))) E ∙ ap (divisor_of flat u) back
+  module _ {f : Bool} {d : ℤ} (E : f ≡ flat) (D : d ≡ divisor_of f u (to_z w32 (of_z w32 z))) (V : mag d < 9223372036854775808) where
+    divisor-is : d ≡ divisor
+    divisor-is = D ∙ ap (λ (f : Bool). divisor_of f u (to_z w32 (of_z w32 z))) E ∙ ap (divisor_of flat u) back
 
-  rise-is : {f : Bool} {r : ℤ} → f ≡ flat → r ≡ rise_of f u → r ≡ rise
-  rise-is E R = R ∙ ap (λ (f : Bool). rise_of f u) E
+    abbrev Divisor : Loc w64
+    Divisor = arg d (record { sfits = V })
 
-  intercept-is : (m : ℤ) {f : Bool} {a : ℤ} → f ≡ flat → to_z w32 (of_z w32 m) ≡ slope → a ≡ intercept_of b.edition f u (to_z w32 (of_z w32 z)) (to_z w32 (of_z w32 m)) → a ≡ intercept_of b.edition flat u z slope
-  intercept-is m E M A =
-      A
-      ∙ ap (λ (f : Bool). intercept_of b.edition f u (to_z w32 (of_z w32 z)) (to_z w32 (of_z w32 m))) E
-      ∙ ap (λ (z : ℤ). intercept_of b.edition flat u z (to_z w32 (of_z w32 m))) back
-      ∙ ap (intercept_of b.edition flat u z) M
+    refused : le_z (to_z w64 (of_z w64 d)) (pos 0) ≡ true → refused_fit 22 ≡ fit_from b.edition b.requirements z ps u
+    refused t = sym (no_divisor b.edition b.requirements z ps u (subst (λ (x : ℤ). x ≤ℤ pos 0) divisor-is (le_true Divisor (lit 0 (lit< tt)) t)))
 
-  slope-is : {f : Bool} {s : Option ℤ} {r d : ℤ} → SFits w64 r → SFits w64 d → f ≡ flat → r ≡ rise_of f u → d ≡ divisor_of f u (to_z w32 (of_z w32 z))
-      → s ≡ slope_code b.edition (to_z w64 (of_z w64 r)) (to_z w64 (of_z w64 d)) → s ≡ slope_code b.edition rise divisor
-  slope-is {d = d} R D E r-is d-is S =
-      S
-      ∙ ap (λ (r : ℤ). slope_code b.edition r (to_z w64 (of_z w64 d))) (to_z-of_z {w = w64} R ∙ rise-is E r-is)
-      ∙ ap (slope_code b.edition rise) (to_z-of_z {w = w64} D ∙ divisor-is E d-is)
+    module _ {r : ℤ} (A : le_z (to_z w64 (of_z w64 d)) (pos 0) ≡ false) (R : r ≡ rise_of f u) (W : mag r < 9223372036854775808) where
+      above : pos 0 <ℤ divisor
+      above = subst (λ (x : ℤ). pos 0 <ℤ x) divisor-is (le_false Divisor (lit 0 (lit< tt)) A)
 
-  -- a slope that stands is B, in its range
-  module _ {m : ℤ} (S : slope_code b.edition rise divisor ≡ Some m) where
-    kept : slope_ranged_of slope ≡ true
-    kept = (slope_taken b.edition rise divisor S).0
+      rise-is : to_z w64 (of_z w64 r) ≡ rise_of flat u
+      rise-is = to_z-of_z {w = w64} (record { sfits = W }) ∙ R ∙ ap (λ (f : Bool). rise_of f u) E
 
-    slope-ranged : Between (pos 1) (pos 1000000) slope
-    slope-ranged = (between_answers (pos 1) (pos 1000000) slope).sure (subst T (sym kept) tt)
+      asked : (nat_abs (to_z w64 (of_z w64 r)) ≤ 144000000000000) × (pos 0 <ℤ to_z w64 (of_z w64 d)) × (nat_abs (to_z w64 (of_z w64 d)) ≤ 144000000000000)
+      asked = rw (rise-is, Divisor.reads, divisor-is) (omega (arith, rise_bound Q.1 flat), above, omega (arith, divisor_bound Q.1 Q.0 flat))
 
-    slope-kept : to_z w32 (of_z w32 m) ≡ slope
-    slope-kept = let e = (slope_taken b.edition rise divisor S).1 in rw e (to_z-of_z {w = w32} (between_fits tt slope-ranged))
+      module _ {s : Option ℤ} (S : s ≡ slope_code b.edition (to_z w64 (of_z w64 r)) (to_z w64 (of_z w64 d))) where
+        slope-is : s ≡ slope_code b.edition (rise_of flat u) divisor
+        slope-is = S ∙ rw (rise-is, Divisor.reads, divisor-is)
 
--- a number of the code's as a local
-abbrev D : (d : ℤ) → SFits w64 d → Loc w64
-D d f = arg d f
+        outside : s ≡ None → refused_fit 23 ≡ fit_from b.edition b.requirements z ps u
+        outside e = sym (no_slope b.edition b.requirements z ps u above (slope_refused b.edition (rise_of flat u) divisor (sym slope-is ∙ e)))
+
+        -- a slope that stands is B, in its range
+        module _ {m : ℤ} (M : s ≡ Some m) where
+          kept : slope_ranged_of slope ≡ true
+          kept = (slope_taken b.edition (rise_of flat u) divisor (sym slope-is ∙ M)).0
+
+          ranged : Between (pos 1) (pos 1000000) slope
+          ranged = (between_answers (pos 1) (pos 1000000) slope).sure (subst T (sym kept) tt)
+
+          slope-kept : to_z w32 (of_z w32 m) ≡ slope
+          slope-kept = let e = (slope_taken b.edition (rise_of flat u) divisor (sym slope-is ∙ M)).1 in rw e (to_z-of_z {w = w32} (between_fits tt ranged))
+
+          module _ {a : ℤ} (I : a ≡ intercept_of b.edition f u (to_z w32 (of_z w32 z)) (to_z w32 (of_z w32 m))) (J : mag a < 9223372036854775808) where
+            intercept-is : to_z w64 (of_z w64 a) ≡ intercept_of b.edition flat u z slope
+            intercept-is = to_z-of_z {w = w64} (record { sfits = J }) ∙ I ∙ rw (E, back, slope-kept)
+
+            line-ranged : LineRanged (record { slope = to_z w32 (of_z w32 m); intercept = to_z w64 (of_z w64 a) })
+            line-ranged = rw (slope-kept, intercept-is) (line_ranged b.edition Q.1 Q.2 Q.0 ranged flat)
+
+            fits : line_fits b.edition b.requirements ps (record { slope = to_z w32 (of_z w32 m); intercept = to_z w64 (of_z w64 a) }) ≡ fit_from b.edition b.requirements z ps u
+            fits = rw (slope-kept, intercept-is) (sym (a_line b.edition b.requirements z ps u above kept))
 
 pub returns-then-d-le0 : goal.returns-then-d-le0
 returns-then-d-le0 c =
-    let b = c.args.self.basis in
-    let e = divisor-is b c.args.z c.args.self.pairs.now c.args.u c.ranges.z c.is_flat-flat.ensures c.divisor-d.ensures in
-    let d = D c.divisor-d.result (record { sfits = c.divisor-d.type_inv }) in
-    sym (no_divisor b.edition b.requirements c.args.z c.args.self.pairs.now c.args.u (subst (λ (x : ℤ). x ≤ℤ pos 0) e (le_true d Zero c.if-d-le0.true)))
+    let s = c.args.self in
+    refused s.basis c.args.z s.pairs.now c.args.u c.requires c.is_flat.ensures c.divisor-d.ensures c.divisor-d.type_inv c.if-d-le0.true
 
 pub slope-requires : goal.slope-requires
 slope-requires c =
-    let b = c.args.self.basis in
-    let e = divisor-is b c.args.z c.args.self.pairs.now c.args.u c.ranges.z c.is_flat-flat.ensures c.divisor-d.ensures in
-    let m = rise-is b c.args.z c.args.self.pairs.now c.args.u c.ranges.z c.is_flat-flat.ensures c.rise.ensures in
-    let d = D c.divisor-d.result (record { sfits = c.divisor-d.type_inv }) in
-    let r = D c.rise.result (record { sfits = c.rise.type_inv }) in
-    let f = flat_of b.edition b.requirements c.args.self.pairs.now in (
-      omega (arith, ap nat_abs (r.reads ∙ m), rise_bound c.requires.2 f),
-      subst (λ (x : ℤ). pos 0 <ℤ x) (sym d.reads) (le_false d Zero c.if-d-le0.false),
-      omega (arith, ap nat_abs (d.reads ∙ e), divisor_bound c.requires.2 c.requires.1 f),
-    )
+    let s = c.args.self in
+    asked s.basis c.args.z s.pairs.now c.args.u c.requires c.is_flat.ensures c.divisor-d.ensures c.divisor-d.type_inv c.if-d-le0.false c.rise.ensures c.rise.type_inv
 
 pub returns-in_default : goal.returns-in_default
 returns-in_default c =
-    let b = c.args.self.basis in
-    let z = c.args.z in
-    let ps = c.args.self.pairs.now in
-    let u = c.args.u in
-    let R : SFits w64 c.rise.result = record { sfits = c.rise.type_inv } in
-    let V : SFits w64 c.divisor-d.result = record { sfits = c.divisor-d.type_inv } in
-    let s = slope-is b z ps u c.ranges.z R V c.is_flat-flat.ensures c.rise.ensures c.divisor-d.ensures c.slope.ensures in
-    let e = divisor-is b z ps u c.ranges.z c.is_flat-flat.ensures c.divisor-d.ensures in
-    let above = subst (λ (x : ℤ). pos 0 <ℤ x) e (le_false (D c.divisor-d.result V) Zero c.if-d-le0.false) in
-    sym (no_slope b.edition b.requirements z ps u above (slope_refused b.edition (rise b z ps u c.ranges.z) (divisor b z ps u c.ranges.z) (sym s ∙ c.in_default.is)))
+    let s = c.args.self in
+    outside s.basis c.args.z s.pairs.now c.args.u c.requires c.is_flat.ensures c.divisor-d.ensures c.divisor-d.type_inv c.if-d-le0.false c.rise.ensures c.rise.type_inv
+    c.slope.ensures c.in_default.is
 
 pub intercept-intercept-requires : goal.intercept-intercept-requires
 intercept-intercept-requires c =
-    let b = c.args.self.basis in
-    let z = c.args.z in
-    let ps = c.args.self.pairs.now in
-    let u = c.args.u in
-    let R : SFits w64 c.rise.result = record { sfits = c.rise.type_inv } in
-    let V : SFits w64 c.divisor-d.result = record { sfits = c.divisor-d.type_inv } in
-    let s = slope-is b z ps u c.ranges.z R V c.is_flat-flat.ensures c.rise.ensures c.divisor-d.ensures c.slope.ensures in
-    let S = sym s ∙ c.in-Some.is in
-    (c.requires.2, c.requires.3, rw (back b z ps u c.ranges.z) c.requires.1, rw (slope-kept b z ps u c.ranges.z S) (slope-ranged b z ps u c.ranges.z S))
+    let s = c.args.self in
+    let e = slope-kept s.basis c.args.z s.pairs.now c.args.u c.requires c.is_flat.ensures c.divisor-d.ensures c.divisor-d.type_inv c.if-d-le0.false c.rise.ensures c.rise.type_inv c.slope.ensures c.in-Some.is in
+    rw e
+    (ranged s.basis c.args.z s.pairs.now c.args.u c.requires c.is_flat.ensures c.divisor-d.ensures c.divisor-d.type_inv c.if-d-le0.false c.rise.ensures c.rise.type_inv
+    c.slope.ensures c.in-Some.is)
 
 pub line_fits-requires : goal.line_fits-requires
 line_fits-requires c =
-    let b = c.args.self.basis in
-    let z = c.args.z in
-    let ps = c.args.self.pairs.now in
-    let u = c.args.u in
-    let R : SFits w64 c.rise.result = record { sfits = c.rise.type_inv } in
-    let V : SFits w64 c.divisor-d.result = record { sfits = c.divisor-d.type_inv } in
-    let I : SFits w64 c.intercept-intercept.result = record { sfits = c.intercept-intercept.type_inv } in
-    let s = slope-is b z ps u c.ranges.z R V c.is_flat-flat.ensures c.rise.ensures c.divisor-d.ensures c.slope.ensures in
-    let S = sym s ∙ c.in-Some.is in
-    let k = slope-kept b z ps u c.ranges.z S in
-    let a = intercept-is b z ps u c.ranges.z c.in-Some.slope c.is_flat-flat.ensures k c.intercept-intercept.ensures in
-    (c.requires.0, rw (k, to_z-of_z {w = w64} I, a) (line_ranged b.edition c.requires.2 c.requires.3 c.requires.1 (slope-ranged b z ps u c.ranges.z S) (flat b z ps u c.ranges.z)))
+    let s = c.args.self in
+    line-ranged s.basis c.args.z s.pairs.now c.args.u c.requires c.is_flat.ensures c.divisor-d.ensures c.divisor-d.type_inv c.if-d-le0.false c.rise.ensures c.rise.type_inv
+    c.slope.ensures c.in-Some.is c.intercept-intercept.ensures c.intercept-intercept.type_inv
 
 pub returns : goal.returns
 returns c =
-    let b = c.args.self.basis in
-    let z = c.args.z in
-    let ps = c.args.self.pairs.now in
-    let u = c.args.u in
-    let R : SFits w64 c.rise.result = record { sfits = c.rise.type_inv } in
-    let V : SFits w64 c.divisor-d.result = record { sfits = c.divisor-d.type_inv } in
-    let I : SFits w64 c.intercept-intercept.result = record { sfits = c.intercept-intercept.type_inv } in
-    let s = slope-is b z ps u c.ranges.z R V c.is_flat-flat.ensures c.rise.ensures c.divisor-d.ensures c.slope.ensures in
-    let S = sym s ∙ c.in-Some.is in
-    let k = slope-kept b z ps u c.ranges.z S in
-    let a = intercept-is b z ps u c.ranges.z c.in-Some.slope c.is_flat-flat.ensures k c.intercept-intercept.ensures in
-    let e = divisor-is b z ps u c.ranges.z c.is_flat-flat.ensures c.divisor-d.ensures in
-    let above = subst (λ (x : ℤ). pos 0 <ℤ x) e (le_false (D c.divisor-d.result V) Zero c.if-d-le0.false) in
+    let s = c.args.self in
     c.line_fits.ensures
-    ∙ ap (λ (m : ℤ). line_fits b.edition b.requirements ps (record { slope = m; intercept = to_z w64 (of_z w64 c.intercept-intercept.result) })) k
-    ∙ ap (λ (v : ℤ). line_fits b.edition b.requirements ps (record { slope = slope b z ps u c.ranges.z; intercept = v })) (to_z-of_z {w = w64} I ∙ a)
-    ∙ sym (a_line b.edition b.requirements z ps u above (kept b z ps u c.ranges.z S))
+    ∙ fits s.basis c.args.z s.pairs.now c.args.u c.requires c.is_flat.ensures c.divisor-d.ensures c.divisor-d.type_inv c.if-d-le0.false c.rise.ensures c.rise.type_inv
+    c.slope.ensures c.in-Some.is c.intercept-intercept.ensures c.intercept-intercept.type_inv

@@ -16,7 +16,7 @@ use Rattle.calibration.proofs.FitLaws.{product_size}
 use Rattle.calibration.specs.declared.Basis.{Basis}
 use Rattle.calibration.specs.declared.Pair.{Pair}
 use Rattle.calibration.specs.declared.Span.{Span}
-use Rattle.calibration.proofs.SampleLaws.{all_ranged, required}
+use Rattle.calibration.proofs.SampleLaws.{all_ranged}
 use Rattle.calibration.proofs.Sample.is_flat.Goals as goal
 
 -- y' of a pair of the list
@@ -29,14 +29,14 @@ loop-p-init c =
     let ps = c.args.self.pairs.now in
     let b = c.args.self.basis in
     let e = c.measured-first.ensures in
-    let h = sized b ps (all_ranged c.args.self.pairs.now c.args.self.ranged) (required c.args.self.basis.requirements c.args.self.required) 0 c.requires in
+    let h = sized b ps (all_ranged c.args.self.pairs.now c.args.self.ranged) c.args.self.required 0 c.args.self.some in
     record {
       spanned = rw e (record { low = h; high = h });
-      whole = rw (e, next_pair ps 0 c.requires) (span_begun (measured_of b.edition b.requirements.oxygen (get_or ps 0 unset)) (map (measured_of b.edition b.requirements.oxygen) (drop 1 ps)));
+      whole = rw (e, next_pair ps 0 c.args.self.some) (span_begun (measured_of b.edition b.requirements.oxygen (get_or ps 0 unset)) (map (measured_of b.edition b.requirements.oxygen) (drop 1 ps)));
     }
 
 pub measured-first-requires : goal.measured-first-requires
-measured-first-requires c = ranged_at c.args.self.pairs.now 0 c.requires (all_ranged c.args.self.pairs.now c.args.self.ranged)
+measured-first-requires c = ranged_at c.args.self.pairs.now 0 c.args.self.some (all_ranged c.args.self.pairs.now c.args.self.ranged)
 
 pub measured-requires : goal.measured-requires
 measured-requires c = (ranged_at c.args.self.pairs.now c.loop-p.p-index c.loop-p-test.true (all_ranged c.args.self.pairs.now c.args.self.ranged))
@@ -50,7 +50,7 @@ loop-p-preserved c =
     let v = measured_of b.edition b.requirements.oxygen (get_or ps i unset) in
     let left = rw (next_pair ps i h) at c.loop-p.invariant.whole in
     record {
-      spanned = rw (c.widened-s.ensures, c.measured.ensures) (widened_spanned v c.loop-p.invariant.spanned (sized b ps (all_ranged c.args.self.pairs.now c.args.self.ranged) (required c.args.self.basis.requirements c.args.self.required) i h));
+      spanned = rw (c.widened-s.ensures, c.measured.ensures) (widened_spanned v c.loop-p.invariant.spanned (sized b ps (all_ranged c.args.self.pairs.now c.args.self.ranged) c.args.self.required i h));
       whole = rw (c.widened-s.ensures, c.measured.ensures) left;
     }
 
@@ -97,4 +97,4 @@ returns c =
     let ps = c.args.self.pairs.now in
     let b = c.args.self.basis in
     let whole : c.loop-p.s ≡ span_of (map (measured_of b.edition b.requirements.oxygen) ps) = rw (drop_of_length-le ps {i = c.loop-p.p-index} c.loop-p-test.false) at c.loop-p.invariant.whole in
-    lt_flag (KD c.loop-p.s S) (FE b (required c.args.self.basis.requirements c.args.self.required)) ∙ ap (λ (v : Span). lt_z (pos 100 *ℤ (v.high.0 -ℤ v.low.0)) (pos 15 *ℤ b.requirements.limit)) whole
+    rw (c.from.ensures, c.from-2.ensures, c.from-3.ensures) (lt_flag (KD c.loop-p.s S) (FE b c.args.self.required)) ∙ ap (λ (v : Span). lt_z (pos 100 *ℤ (v.high.0 -ℤ v.low.0)) (pos 15 *ℤ b.requirements.limit)) whole

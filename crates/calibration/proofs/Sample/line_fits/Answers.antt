@@ -1,9 +1,9 @@
 -- `calibration::Sample::line_fits` meets its contract.
-use Rattle.std.proofs.Common.{◌≡◌, refl, sym, ap, ◌∙◌, ◌<◌, ◌≤◌, false, List, length, arith, to_z-of_z, w32}
-use Rattle.std.specs.Prelude.{ℤ, nat_abs}
+use Rattle.std.proofs.Common.{arith, ◌≡◌, refl, sym, ap, ◌∙◌, ◌<◌, ◌≤◌, false, List, length, to_z-of_z, w32}
+use Rattle.std.specs.Prelude.{ℤ}
 use mir.Val.{to_z, of_z}
 use Rattle.calibration.specs.Calibration.{some_beyond, deviations_of, q_of, residuals_of, top_of}
-use Rattle.calibration.specs.PairLaws.{between_fits, sigma_need, sigma_small, sigma_reads, sigma_is}
+use Rattle.calibration.specs.PairLaws.{between_fits}
 use Rattle.calibration.specs.Pairs.{RequirementsRanged}
 use Rattle.calibration.proofs.VerdictLaws.{Dispersed, dispersed, line_beyond, pairs_of_pairs, line_stands}
 use Rattle.calibration.specs.declared.Basis.{Basis}
@@ -11,7 +11,7 @@ use Rattle.calibration.specs.declared.Line.{Line}
 use Rattle.calibration.specs.declared.Pair.{Pair}
 use Rattle.calibration.specs.declared.Requirements.{Requirements}
 use Rattle.calibration.specs.declared.Residuals.{Residuals}
-use Rattle.calibration.proofs.SampleLaws.{required}
+use Rattle.calibration.proofs.WideLaws.{sigma_taken, taken_small}
 use Rattle.calibration.proofs.Sample.line_fits.Goals as goal
 
 limit : {q : Requirements} → RequirementsRanged q → to_z w32 (of_z w32 q.limit) ≡ q.limit
@@ -26,13 +26,13 @@ module _ (b : Basis) (l : Line) (ps : List Pair) (P : 0 < length ps) (N : length
 
 pub dispersion-requires : goal.dispersion-requires
 dispersion-requires c =
-    let s = spread c.args.self.basis c.args.l c.args.self.pairs.now c.requires.0 c.args.self.few (sym c.beyond.ensures ∙ c.if-beyond.false) c.residuals-r.ensures in
+    let s = spread c.args.self.basis c.args.l c.args.self.pairs.now c.args.self.some c.args.self.few (sym c.beyond.ensures ∙ c.if-beyond.false) c.residuals-r.ensures in
     (c.args.self.few, s.sum, s.squares, s.above)
 
 pub top-requires : goal.top-requires
 top-requires c =
-    let s = spread c.args.self.basis c.args.l c.args.self.pairs.now c.requires.0 c.args.self.few (sym c.beyond.ensures ∙ c.if-beyond.false) c.residuals-r.ensures in
-    (s.most, rw (limit (required c.args.self.basis.requirements c.args.self.required)) (required c.args.self.basis.requirements c.args.self.required).limit)
+    let s = spread c.args.self.basis c.args.l c.args.self.pairs.now c.args.self.some c.args.self.few (sym c.beyond.ensures ∙ c.if-beyond.false) c.residuals-r.ensures in
+    (s.most, rw (limit c.args.self.required) c.args.self.required.limit)
 
 pub returns : goal.returns
 returns c =
@@ -40,17 +40,13 @@ returns c =
     let ps = c.args.self.pairs.now in
     let near = sym c.beyond.ensures ∙ c.if-beyond.false in
     let R = c.residuals-r.ensures in
-    let s = spread b c.args.l ps c.requires.0 c.args.self.few near R in
-    line_stands b.edition b.requirements ps c.args.l (length ps) c.dispersion.result (nat_abs b.requirements.uncertainty) near refl (c.dispersion.ensures ∙ s.is) (sigma_is (required c.args.self.basis.requirements c.args.self.required))
-    c.varied.result (c.varied.ensures ∙ rw (sigma_reads (required c.args.self.basis.requirements c.args.self.required), c.k_factor.ensures.0))
+    let s = spread b c.args.l ps c.args.self.some c.args.self.few near R in
+    line_stands b.edition b.requirements ps c.args.l (length ps) c.dispersion.result c.cast_unsigned.result near refl (c.dispersion.ensures ∙ s.is) (sigma_taken c.args.self.required c.cast_unsigned.ensures)
+    c.varied.result (c.varied.ensures ∙ rw c.k_factor.ensures.0)
     c.top.result
     (c.top.ensures
-    ∙ ap (λ (e : ℤ). top_of b.edition e c.residuals-r.result.most) (limit (required c.args.self.basis.requirements c.args.self.required))
+    ∙ ap (λ (e : ℤ). top_of b.edition e c.residuals-r.result.most) (limit c.args.self.required)
     ∙ ap (λ (r : Residuals). top_of b.edition b.requirements.limit r.most) R)
 
-pub overflow_cast-q : goal.overflow_cast-q
-overflow_cast-q c = sigma_need (required c.args.self.basis.requirements c.args.self.required)
-
 pub varied-requires : goal.varied-requires
-varied-requires c =
-    (omega arith, pairs_of_pairs (length c.args.self.pairs.now) c.args.self.few, sigma_small (required c.args.self.basis.requirements c.args.self.required), c.k_factor.ensures.1)
+varied-requires c = (omega arith, pairs_of_pairs (length c.args.self.pairs.now) c.args.self.few, taken_small c.args.self.required c.cast_unsigned.ensures, c.k_factor.ensures.1)

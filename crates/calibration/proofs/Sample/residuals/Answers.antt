@@ -17,18 +17,18 @@ loop-p-init c =
     let o = c.args.self.basis.requirements.oxygen in
     let p = get_or ps 0 unset in
     record {
-      ranged = rw e (begun_ranged edition o c.args.l p (near_at edition o c.args.l ps 0 c.requires.0 c.requires.2));
-      whole = rw (e, next_pair ps 0 c.requires.0) (residuals_from edition o c.args.l p (drop 1 ps));
+      ranged = rw e (begun_ranged edition o c.args.l p (near_at edition o c.args.l ps 0 c.args.self.some c.requires.1));
+      whole = rw (e, next_pair ps 0 c.args.self.some) (residuals_from edition o c.args.l p (drop 1 ps));
     }
 
 pub fitted_value-requires : goal.fitted_value-requires
-fitted_value-requires c = (c.requires.1, ranged_at c.args.self.pairs.now 0 c.requires.0 (all_ranged c.args.self.pairs.now c.args.self.ranged))
+fitted_value-requires c = (c.requires.0, ranged_at c.args.self.pairs.now 0 c.args.self.some (all_ranged c.args.self.pairs.now c.args.self.ranged))
 
 pub measured-requires : goal.measured-requires
 measured-requires c = (ranged_at c.args.self.pairs.now c.loop-p.p-index c.loop-p-test.true (all_ranged c.args.self.pairs.now c.args.self.ranged))
 
 pub fitted_value-requires-in-loop-p : goal.fitted_value-requires-in-loop-p
-fitted_value-requires-in-loop-p c = (c.requires.1, ranged_at c.args.self.pairs.now c.loop-p.p-index c.loop-p-test.true (all_ranged c.args.self.pairs.now c.args.self.ranged))
+fitted_value-requires-in-loop-p c = (c.requires.0, ranged_at c.args.self.pairs.now c.loop-p.p-index c.loop-p-test.true (all_ranged c.args.self.pairs.now c.args.self.ranged))
 
 -- y' and c of a turn's pair
 near : (b : Basis) (l : Line) (ps : List Pair) (i : ℕ) → i < length ps → some_beyond b.edition b.requirements.oxygen l ps ≡ false
@@ -38,7 +38,7 @@ near b l ps i h B = pair_near b.edition b.requirements.oxygen l (get_or ps i uns
 pub with_residual-r-requires : goal.with_residual-r-requires
 with_residual-r-requires c =
     let R = c.loop-p.invariant.ranged in
-    let f = near c.args.self.basis c.args.l c.args.self.pairs.now c.loop-p.p-index c.loop-p-test.true c.requires.2 in
+    let f = near c.args.self.basis c.args.l c.args.self.pairs.now c.loop-p.p-index c.loop-p-test.true c.requires.1 in
     (omega (arith, R.sum), omega (arith, R.squares), rw c.measured.ensures f.0, rw c.fitted_value-in-loop-p.ensures f.1)
 
 pub loop-p-preserved : goal.loop-p-preserved
@@ -49,7 +49,7 @@ loop-p-preserved c =
     let edition = c.args.self.basis.edition in
     let o = c.args.self.basis.requirements.oxygen in
     let p = get_or ps i unset in
-    let f = near c.args.self.basis c.args.l ps i h c.requires.2 in
+    let f = near c.args.self.basis c.args.l ps i h c.requires.1 in
     let e : c.with_residual-r.result ≡ with_pair edition o c.args.l c.loop-p.r p = c.with_residual-r.ensures ∙ rw (c.measured.ensures, c.fitted_value-in-loop-p.ensures) in
     let left = rw (next_pair ps i h) at c.loop-p.invariant.whole in
     record {

@@ -54,14 +54,14 @@ pub adjustment-requires : goal.adjustment-requires
 adjustment-requires c =
     let a = c.args in
     let x = raised-is c.ranges.d c.raised-x.ensures.0 in
-    let w = rising-within a.self a.s c.raised-x.result a.d x c.requires.0 c.requires.2 (rising-is a.self a.s c.raised-x.result a.d x c.add-rising.ensures) in
+    let w = rising-within a.self a.s c.raised-x.result a.d x c.requires.0 c.requires.2 (rising-is a.self a.s c.raised-x.result a.d x (rw c.from-q.ensures at c.add-rising.ensures)) in
     (omega (arith, w.counted, c.requires.1), omega (arith, w.bounded))
 
 pub adjustment-requires-2 : goal.adjustment-requires-2
 adjustment-requires-2 c =
     let a = c.args in
     let x = raised-is c.ranges.d c.raised-x.ensures.0 in
-    let w = falling-within a.self a.s c.raised-x.result a.d x c.requires.0 c.requires.2 (falling-is a.self a.s c.raised-x.result a.d x c.add-falling.ensures) in
+    let w = falling-within a.self a.s c.raised-x.result a.d x c.requires.0 c.requires.2 (falling-is a.self a.s c.raised-x.result a.d x (rw c.from-q.ensures at c.add-falling.ensures)) in
     (omega (arith, w.counted, c.requires.1), omega (arith, w.bounded))
 
 pub returns : goal.returns
@@ -71,7 +71,7 @@ returns c =
     let x = raised-is c.ranges.d c.raised-x.ensures.0 in
     let F : SFits w32 a.self.last = search rules in
     let y = raised-is F c.raised.ensures.0 in
-    let p = rising-is a.self a.s c.raised-x.result a.d x c.add-rising.ensures in
-    let m = falling-is a.self a.s c.raised-x.result a.d x c.add-falling.ensures in
-    let v = precision-is a.self a.s c.raised-x.result a.d x y c.abs_diff-step.ensures c.add-precision.ensures in
+    let p = rising-is a.self a.s c.raised-x.result a.d x (rw c.from-q.ensures at c.add-rising.ensures) in
+    let m = falling-is a.self a.s c.raised-x.result a.d x (rw c.from-q.ensures at c.add-falling.ensures) in
+    let v = precision-is a.self a.s c.raised-x.result a.d x y c.abs_diff-step.ensures (rw c.from-q.ensures at c.add-precision.ensures) in
     simp (c.adjustment-2.ensures, c.adjustment.ensures, p, m, v, to_z-of_z {w = w32} c.ranges.d)
