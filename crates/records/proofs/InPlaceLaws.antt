@@ -12,6 +12,7 @@ use Rattle.records.specs.Record.{Record, kind, mark, minute, difference_of}
 use Rattle.records.specs.Kinds.{reads, resets, sets, pairs, empties, calibrates, passes, fails, counts, week_of, outside_by}
 use Rattle.records.specs.Table.{refusal_in}
 use Rattle.records.specs.State.{facts_of, chart_after, turns_from, applied_to}
+use Rattle.records.specs.StateParts.{judged_of}
 use Rattle.records.specs.Soundness.{Sound}
 use Rattle.records.specs.InPlace.{in_week_of, InWeek}
 use Rattle.records.specs.declared.state.State.{State}
@@ -29,6 +30,13 @@ in_week k st r t s a =
       is = eqb-true (kind r) k p.0;
       week = le-ltb _ _ (leb-true (week_of (minute r)) (week_of st.minute) p.1);
     }
+
+-- ---- the state with the minute of a record of no later week is the judged state
+
+pub in_place : (st : State) (r : Record) (m : ℕ) → turns_from st.minute (minute r) ≡ false → m ≡ minute r
+    → record st { begun = true; minute = m } ≡ judged_of st (minute r)
+unfolding judged_of
+in_place st r m w e = rw (e, w)
 
 -- ---- applied_to, of a value and of a reading in the week of the record before
 

@@ -1,7 +1,7 @@
 // What an accepted record makes of the state.
 ghost use Rattle.std.specs.Prelude.{◌≡◌, true, false, ◌+◌, ◌<◌, ◌≤◌, if◌then◌else◌};
 ghost use Rattle.charts.specs.Soundness.{Sound as Charts-as-Sound};
-ghost use Rattle.records.specs.Record.{reading_ranged, value_ranged};
+ghost use Rattle.records.specs.Record.{mark, reading_ranged, value_ranged};
 ghost use Rattle.records.specs.Kinds.{exceeds as Kinds·exceeds, outside_by};
 ghost use Rattle.records.specs.Soundness.{CalibrationSound, SettingSound, Sound};
 ghost use Rattle.records.specs.Table.{reading_refusal, refusal_in};
@@ -176,37 +176,31 @@ fn outside(st: &State, r: &[u8; 40]) -> bool
 }
 
 // A value: with another mark than 0 it doesn't count in its week.
-fn with_value(st: State, mark: u8, outside: bool) -> State
-    requires { (st.total < 4294967295) × (st.outside < 4294967295) }
-    ensures { result ≡ with_value st mark outside }
+fn with_value(mut st: State, r: &[u8; 40]) -> State
+    requires counts { (st.total < 4294967295) × (st.outside < 4294967295) }
+    requires figures { CalibrationSound st.calibration × SettingSound st.setting × (value_ranged r.now ≡ true) }
+    ensures { result ≡ with_value st (mark r.now) (outside_by st.edition st.calibration st.setting r.now) }
 {
-    if mark != 0 {
+    if r[1] != 0 {
         return st;
     }
-    State {
-        total: st.total + 1,
-        outside: st.outside + u32::from(outside),
-        ..st
-    }
+    st.total += 1;
+    st.outside += u32::from(outside(&st, r));
+    st
 }
 
-// A reading of the chart of its mark: 0 for zero, 1 for span. The choice by the mark is no helper's: one would test it twice, to take the chart and to put it
-// back.
-fn with_reading(st: State, r: &[u8; 40]) -> State
+// A reading of the chart of its mark: 0 for zero, 1 for span.
+fn with_reading(mut st: State, r: &[u8; 40]) -> State
     requires { (reading_ranged r.now ≡ true) × (reading_refusal (facts_of st) r.now ≡ 0) × Charts-as-Sound st.zero × Charts-as-Sound st.span }
     ensures { result ≡ with_reading st r.now }
 {
     let d = fields::difference_of(r);
     if r[1] == 0 {
-        return State {
-            zero: st.zero.apply(st.edition, st.setting.zero, d),
-            ..st
-        };
+        st.zero = st.zero.apply(st.edition, st.setting.zero, d);
+        return st;
     }
-    State {
-        span: st.span.apply(st.edition, st.setting.span, d),
-        ..st
-    }
+    st.span = st.span.apply(st.edition, st.setting.span, d);
+    st
 }
 
 // A reset of the chart of its mark.
@@ -262,15 +256,14 @@ pub fn apply(st: State, r: &[u8; 40]) -> State
         4 => with_pair(s, fields::waiting_of(r)),
         5 => with_calibration(s, r),
         6 => with_annual(s, r),
-        7 => with_value(s, r[1], outside(&s, r)),
+        7 => with_value(s, r),
         8 => emptied(s),
         0 => s,
         9..=255 => s,
     }
 }
 
-// ---- values and readings, which are most records, in the week of the record before: the state is changed in place, beside `with_value` and `with_reading`,
-// for the reader's speed
+// ---- values and readings, which are most records, in the week of the record before: no week is judged, and the state is changed in place
 
 // Whether a record is of the kind given and of no later week than the last one.
 pub fn in_week(kind: u8, st: State, r: &[u8; 40]) -> bool
@@ -279,36 +272,20 @@ pub fn in_week(kind: u8, st: State, r: &[u8; 40]) -> bool
     (r[0] == kind) & (bytes::read32(r, 4) / 10080 <= st.minute / 10080)
 }
 
-// A value: the minute changes, and with mark 0 the tally.
 pub fn value(mut st: State, r: &[u8; 40]) -> State
     requires { InWeek 7 st r.now }
     ensures { result ≡ applied_to st r.now }
 {
     st.begun = true;
     st.minute = bytes::read32(r, 4);
-    if r[1] != 0 {
-        return st;
-    }
-    st.total += 1;
-    if outside(&st, r) {
-        st.outside += 1;
-        return st;
-    }
-    st
+    with_value(st, r)
 }
 
-// A reading: the minute and the chart of its mark change.
 pub fn reading(mut st: State, r: &[u8; 40]) -> State
     requires { InWeek 2 st r.now }
     ensures { result ≡ applied_to st r.now }
 {
-    let d = fields::difference_of(r);
     st.begun = true;
     st.minute = bytes::read32(r, 4);
-    if r[1] == 0 {
-        st.zero = st.zero.apply(st.edition, st.setting.zero, d);
-        return st;
-    }
-    st.span = st.span.apply(st.edition, st.setting.span, d);
-    st
+    with_reading(st, r)
 }

@@ -2,7 +2,7 @@
 use mathlib.Core.Path.{◌≡◌, ap, ◌∙◌}
 use native.Mathlib.Omega.{arith}
 use lib.ListN.{length, length-take}
-use Rattle.records.specs.Record.{Record, kind, mark, minute, mark_limit}
+use Rattle.records.specs.Record.{Record, kind, minute, mark_limit}
 use Rattle.records.specs.RecordLaws.{FormedFields, formed_fields, setting_ranged_lem, reading_ranged_lem, waiting_ranged_lem, value_ranged_lem}
 use Rattle.records.specs.Kinds.{sets}
 use Rattle.records.specs.Table.{reading_refusal}
@@ -64,18 +64,16 @@ with_pair-requires c =
     let j = (goal.at.with_pair-requires c).After-judged-s in
     rw (judged-is j) (omega (arith, (pair_fits j c.in-4.is).room, length-take (state_of j).pending (state_of j).pairs, places (goal.at.with_pair-requires c).Start))
 
-pub outside-requires : goal.outside-requires
-unfolding kind sets judged_of
-outside-requires c =
-    let j = (goal.at.outside-requires c).After-judged-s in
-    let k = c.in-7.is in
-    rw (judged-is j) (c.requires.0.calibration, setting_known (state_of j) (recordOf j) (passed j).placed (rw k tt) c.requires.0.setting, value_ranged_lem (recordOf j) (passed j).ranged k)
-
 pub with_value-requires : goal.with_value-requires
+unfolding kind sets judged_of
 with_value-requires c =
     let j = (goal.at.with_value-requires c).After-judged-s in
     let S = c.requires.0 in
-    rw (judged-is j) (omega (arith, judged_total (state_of j) (recordOf j), S.total), omega (arith, judged_outside (state_of j) (recordOf j), S.outside))
+    let k = c.in-7.is in
+    rw (judged-is j) record {
+      counts = (omega (arith, judged_total (state_of j) (recordOf j), S.total), omega (arith, judged_outside (state_of j) (recordOf j), S.outside));
+      figures = (S.calibration, setting_known (state_of j) (recordOf j) (passed j).placed (rw k tt) S.setting, value_ranged_lem (recordOf j) (passed j).ranged k);
+    }
 
 pub returns-in-1 : goal.returns-in-1
 unfolding kind with_setting
@@ -118,10 +116,10 @@ returns-in-6 c =
     c.with_annual.ensures ∙ ap (λ (s : State). with_annual s (recordOf j)) (judged-is j) ∙ applied_annual (state_of j) (recordOf j) k
 
 pub returns-in-7 : goal.returns-in-7
-unfolding kind mark judged_of
+unfolding kind judged_of
 returns-in-7 c =
     let j = (goal.at.returns-in-7 c).After-judged-s in
-    c.with_value.ensures ∙ rw (c.outside.ensures, judged-is j) (applied_value (state_of j) (recordOf j) c.in-7.is)
+    c.with_value.ensures ∙ rw (judged-is j) (applied_value (state_of j) (recordOf j) c.in-7.is)
 
 pub returns-in-8 : goal.returns-in-8
 unfolding kind

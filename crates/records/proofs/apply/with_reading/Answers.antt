@@ -15,23 +15,23 @@ use Rattle.records.proofs.apply.with_reading.Goals.{After-difference_of-d}
 back : (c : After-difference_of-d) → to_z w32 (of_z w32 c.difference_of-d.result) ≡ difference_of c.args.r.now
 back c = to_z-of_z {w = w32} (record { sfits = c.difference_of-d.type_inv }) ∙ c.difference_of-d.ensures
 
-pub apply-requires : goal.apply-requires
+pub apply-st-requires : goal.apply-st-requires
 unfolding facts_of mark
-apply-requires c =
+apply-st-requires c =
     let o = zero_open (facts_of c.args.st) c.args.r.now c.requires.1 c.if-r-eq0.true in
-    (c.requires.2, o.room, rw (back (goal.at.apply-requires c).After-difference_of-d) (reading_fields c.args.r.now c.requires.0).difference)
+    (c.requires.2, o.room, rw (back (goal.at.apply-st-requires c).After-difference_of-d) (reading_fields c.args.r.now c.requires.0).difference)
 
 pub returns-then-r-eq0 : goal.returns-then-r-eq0
 unfolding with_reading with_zero mark
 returns-then-r-eq0 c =
-    rw (eq-eqb _ 0 c.if-r-eq0.true, c.apply.ensures, back (goal.at.returns-then-r-eq0 c).After-difference_of-d)
+    rw (eq-eqb _ 0 c.if-r-eq0.true, c.apply-st.ensures, back (goal.at.returns-then-r-eq0 c).After-difference_of-d)
 
-pub apply-requires-2 : goal.apply-requires-2
+pub apply-st-requires-2 : goal.apply-st-requires-2
 unfolding facts_of mark
-apply-requires-2 c =
+apply-st-requires-2 c =
     let o = span_open (facts_of c.args.st) c.args.r.now c.requires.1 c.if-r-eq0.false in
-    (c.requires.3, o.room, rw (back (goal.at.apply-requires-2 c).After-difference_of-d) (reading_fields c.args.r.now c.requires.0).difference)
+    (c.requires.3, o.room, rw (back (goal.at.apply-st-requires-2 c).After-difference_of-d) (reading_fields c.args.r.now c.requires.0).difference)
 
 pub returns : goal.returns
 unfolding with_reading with_span mark
-returns c = rw (ne_eqb _ 0 c.if-r-eq0.false, c.apply-2.ensures, back (goal.at.returns c).After-difference_of-d)
+returns c = rw (ne_eqb _ 0 c.if-r-eq0.false, c.apply-st-2.ensures, back (goal.at.returns c).After-difference_of-d)
