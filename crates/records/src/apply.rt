@@ -175,32 +175,33 @@ fn outside(st: &State, r: &[u8; 40]) -> bool
     }
 }
 
-// A value: with another mark than 0 it doesn't count in its week.
-fn with_value(mut st: State, r: &[u8; 40]) -> State
-    requires counts { (st.total < 4294967295) × (st.outside < 4294967295) }
-    requires figures { CalibrationSound st.calibration × SettingSound st.setting × (value_ranged r.now ≡ true) }
-    ensures { result ≡ with_value st (mark r.now) (outside_by st.edition st.calibration st.setting r.now) }
+// A value: with another mark than 0 it doesn't count in its week. Values and readings, which are most records, lend the state and are inlined: by value, or at a
+// call, it is copied with its thirty pairs, and the reader takes up to twice as long.
+#[inline(always)]
+fn count_value(st: &mut State, r: &[u8; 40])
+    requires counts { (st.old.total < 4294967295) × (st.old.outside < 4294967295) }
+    requires figures { CalibrationSound st.old.calibration × SettingSound st.old.setting × (value_ranged r.now ≡ true) }
+    ensures { st.new ≡ with_value st.old (mark r.now) (outside_by st.old.edition st.old.calibration st.old.setting r.now) }
 {
     if r[1] != 0 {
-        return st;
+        return;
     }
     st.total += 1;
-    st.outside += u32::from(outside(&st, r));
-    st
+    st.outside += u32::from(outside(&*st, r));
 }
 
 // A reading of the chart of its mark: 0 for zero, 1 for span.
-fn with_reading(mut st: State, r: &[u8; 40]) -> State
-    requires { (reading_ranged r.now ≡ true) × (reading_refusal (facts_of st) r.now ≡ 0) × Charts-as-Sound st.zero × Charts-as-Sound st.span }
-    ensures { result ≡ with_reading st r.now }
+#[inline(always)]
+fn take_reading(st: &mut State, r: &[u8; 40])
+    requires { (reading_ranged r.now ≡ true) × (reading_refusal (facts_of st.old) r.now ≡ 0) × Charts-as-Sound st.old.zero × Charts-as-Sound st.old.span }
+    ensures { st.new ≡ with_reading st.old r.now }
 {
     let d = fields::difference_of(r);
     if r[1] == 0 {
         st.zero = st.zero.apply(st.edition, st.setting.zero, d);
-        return st;
+    } else {
+        st.span = st.span.apply(st.edition, st.setting.span, d);
     }
-    st.span = st.span.apply(st.edition, st.setting.span, d);
-    st
 }
 
 // A reset of the chart of its mark.
@@ -251,12 +252,20 @@ pub fn apply(st: State, r: &[u8; 40]) -> State
             setting: fields::setting_of(r),
             ..s
         },
-        2 => with_reading(s, r),
+        2 => {
+            let mut s = s;
+            take_reading(&mut s, r);
+            s
+        }
         3 => with_reset(s, r),
         4 => with_pair(s, fields::waiting_of(r)),
         5 => with_calibration(s, r),
         6 => with_annual(s, r),
-        7 => with_value(s, r),
+        7 => {
+            let mut s = s;
+            count_value(&mut s, r);
+            s
+        }
         8 => emptied(s),
         0 => s,
         9..=255 => s,
@@ -278,7 +287,8 @@ pub fn value(mut st: State, r: &[u8; 40]) -> State
 {
     st.begun = true;
     st.minute = bytes::read32(r, 4);
-    with_value(st, r)
+    count_value(&mut st, r);
+    st
 }
 
 pub fn reading(mut st: State, r: &[u8; 40]) -> State
@@ -287,5 +297,6 @@ pub fn reading(mut st: State, r: &[u8; 40]) -> State
 {
     st.begun = true;
     st.minute = bytes::read32(r, 4);
-    with_reading(st, r)
+    take_reading(&mut st, r);
+    st
 }

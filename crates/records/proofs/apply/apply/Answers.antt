@@ -44,10 +44,10 @@ setting_of-requires c =
     let j = (goal.at.setting_of-requires c).After-judged-s in
     (setting_ranged_lem (recordOf j) (passed j).ranged c.in-1.is)
 
-pub with_reading-requires : goal.with_reading-requires
+pub take_reading-requires : goal.take_reading-requires
 unfolding kind judged_of facts_of reading_refusal
-with_reading-requires c =
-    let j = (goal.at.with_reading-requires c).After-judged-s in
+take_reading-requires c =
+    let j = (goal.at.take_reading-requires c).After-judged-s in
     let A = passed j in
     rw (judged-is j)
     (reading_ranged_lem (recordOf j) A.ranged c.in-2.is, reading_passed (facts_of (state_of j)) (recordOf j) A c.in-2.is, c.requires.0.zero, c.requires.0.span)
@@ -64,10 +64,10 @@ with_pair-requires c =
     let j = (goal.at.with_pair-requires c).After-judged-s in
     rw (judged-is j) (omega (arith, (pair_fits j c.in-4.is).room, length-take (state_of j).pending (state_of j).pairs, places (goal.at.with_pair-requires c).Start))
 
-pub with_value-requires : goal.with_value-requires
+pub count_value-requires : goal.count_value-requires
 unfolding kind sets judged_of
-with_value-requires c =
-    let j = (goal.at.with_value-requires c).After-judged-s in
+count_value-requires c =
+    let j = (goal.at.count_value-requires c).After-judged-s in
     let S = c.requires.0 in
     let k = c.in-7.is in
     rw (judged-is j) record {
@@ -86,7 +86,7 @@ unfolding kind mark_limit
 returns-in-2 c =
     let j = (goal.at.returns-in-2 c).After-judged-s in
     let k = c.in-2.is in
-    c.with_reading.ensures ∙ ap (λ (s : State). with_reading s (recordOf j)) (judged-is j) ∙ applied_reading (state_of j) (recordOf j) k (rw k at (record-formed j).mark)
+    c.take_reading.ensures ∙ ap (λ (s : State). with_reading s (recordOf j)) (judged-is j) ∙ applied_reading (state_of j) (recordOf j) k (rw k at (record-formed j).mark)
 
 pub returns-in-3 : goal.returns-in-3
 unfolding kind mark_limit
@@ -119,7 +119,7 @@ pub returns-in-7 : goal.returns-in-7
 unfolding kind judged_of
 returns-in-7 c =
     let j = (goal.at.returns-in-7 c).After-judged-s in
-    c.with_value.ensures ∙ rw (judged-is j) (applied_value (state_of j) (recordOf j) c.in-7.is)
+    c.count_value.ensures ∙ rw (judged-is j) (applied_value (state_of j) (recordOf j) c.in-7.is)
 
 pub returns-in-8 : goal.returns-in-8
 unfolding kind

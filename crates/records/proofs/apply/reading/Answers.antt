@@ -11,9 +11,9 @@ use Rattle.records.proofs.ApplyLaws.{applied_reading}
 use Rattle.records.proofs.InPlaceLaws.{in_place}
 use Rattle.records.proofs.apply.reading.Goals as goal
 
-pub with_reading-requires : goal.with_reading-requires
+pub take_reading-requires : goal.take_reading-requires
 unfolding kind facts_of reading_refusal
-with_reading-requires c =
+take_reading-requires c =
     let P = c.requires in
     let r = c.args.r.now in
     let A = accepted (facts_of c.args.st) r P.accepted in
@@ -26,6 +26,6 @@ returns c =
     let r = c.args.r.now in
     let k = c.requires.is in
     let F = formed_fields r (accepted (facts_of st) r c.requires.accepted).formed in
-    c.with_reading.ensures
+    c.take_reading.ensures
     ∙ ap (λ (s : State). with_reading s r) (in_place st r c.read32.result c.requires.week c.read32.ensures)
     ∙ applied_reading st r k (rw k at F.mark)

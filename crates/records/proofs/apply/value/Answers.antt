@@ -12,9 +12,9 @@ use Rattle.records.proofs.ApplyLaws.{applied_value}
 use Rattle.records.proofs.InPlaceLaws.{in_place}
 use Rattle.records.proofs.apply.value.Goals as goal
 
-pub with_value-requires-clause-figures : goal.with_value-requires-clause-figures
+pub count_value-requires-clause-figures : goal.count_value-requires-clause-figures
 unfolding kind sets
-with_value-requires-clause-figures c =
+count_value-requires-clause-figures c =
     let P = c.requires in
     let r = c.args.r.now in
     let A = accepted (facts_of c.args.st) r P.accepted in
@@ -25,6 +25,6 @@ unfolding minute
 returns c =
     let st = c.args.st in
     let r = c.args.r.now in
-    c.with_value.ensures
+    c.count_value.ensures
     ∙ ap (λ (s : State). with_value s (mark r) (outside_by st.edition st.calibration st.setting r)) (in_place st r c.read32.result c.requires.week c.read32.ensures)
     ∙ applied_value st r c.requires.is

@@ -1,9 +1,9 @@
--- `apply::with_value` meets its contract.
+-- `apply::count_value` meets its contract.
 use borrow.Author.Tests.{ne_eqb}
 use Rattle.records.specs.Record.{mark}
 use Rattle.records.specs.StateParts.{with_tally, with_value}
 use Rattle.records.proofs.ApplyLaws.{more}
-use Rattle.records.proofs.apply.with_value.Goals as goal
+use Rattle.records.proofs.apply.count_value.Goals as goal
 
 pub returns-then-r-ne0 : goal.returns-then-r-ne0
 unfolding with_value mark

@@ -1,4 +1,4 @@
--- `apply::with_reading` meets its contract.
+-- `apply::take_reading` meets its contract.
 use mathlib.Core.Path.{◌≡◌, ◌∙◌}
 use mir.Syntax.{w32}
 use mir.Val.{to_z, of_z}
@@ -9,8 +9,8 @@ use Rattle.records.specs.RecordLaws.{reading_fields}
 use Rattle.records.proofs.TableLaws.{zero_open, span_open}
 use Rattle.records.specs.State.{facts_of}
 use Rattle.records.specs.StateParts.{with_zero, with_span, with_reading}
-use Rattle.records.proofs.apply.with_reading.Goals as goal
-use Rattle.records.proofs.apply.with_reading.Goals.{After-difference_of-d}
+use Rattle.records.proofs.apply.take_reading.Goals as goal
+use Rattle.records.proofs.apply.take_reading.Goals.{After-difference_of-d}
 
 back : (c : After-difference_of-d) → to_z w32 (of_z w32 c.difference_of-d.result) ≡ difference_of c.args.r.now
 back c = to_z-of_z {w = w32} (record { sfits = c.difference_of-d.type_inv }) ∙ c.difference_of-d.ensures
@@ -18,7 +18,7 @@ back c = to_z-of_z {w = w32} (record { sfits = c.difference_of-d.type_inv }) ∙
 pub apply-st-requires : goal.apply-st-requires
 unfolding facts_of mark
 apply-st-requires c =
-    let o = zero_open (facts_of c.args.st) c.args.r.now c.requires.1 c.if-r-eq0.true in
+    let o = zero_open (facts_of c.args.st.now) c.args.r.now c.requires.1 c.if-r-eq0.true in
     (c.requires.2, o.room, rw (back (goal.at.apply-st-requires c).After-difference_of-d) (reading_fields c.args.r.now c.requires.0).difference)
 
 pub returns-then-r-eq0 : goal.returns-then-r-eq0
@@ -26,12 +26,12 @@ unfolding with_reading with_zero mark
 returns-then-r-eq0 c =
     rw (eq-eqb _ 0 c.if-r-eq0.true, c.apply-st.ensures, back (goal.at.returns-then-r-eq0 c).After-difference_of-d)
 
-pub apply-st-requires-2 : goal.apply-st-requires-2
+pub apply-st-requires-else-r-eq0 : goal.apply-st-requires-else-r-eq0
 unfolding facts_of mark
-apply-st-requires-2 c =
-    let o = span_open (facts_of c.args.st) c.args.r.now c.requires.1 c.if-r-eq0.false in
-    (c.requires.3, o.room, rw (back (goal.at.apply-st-requires-2 c).After-difference_of-d) (reading_fields c.args.r.now c.requires.0).difference)
+apply-st-requires-else-r-eq0 c =
+    let o = span_open (facts_of c.args.st.now) c.args.r.now c.requires.1 c.if-r-eq0.false in
+    (c.requires.3, o.room, rw (back (goal.at.apply-st-requires-else-r-eq0 c).After-difference_of-d) (reading_fields c.args.r.now c.requires.0).difference)
 
-pub returns : goal.returns
+pub returns-else-r-eq0 : goal.returns-else-r-eq0
 unfolding with_reading with_span mark
-returns c = rw (ne_eqb _ 0 c.if-r-eq0.false, c.apply-st-2.ensures, back (goal.at.returns c).After-difference_of-d)
+returns-else-r-eq0 c = rw (ne_eqb _ 0 c.if-r-eq0.false, c.apply-st-else-r-eq0.ensures, back (goal.at.returns-else-r-eq0 c).After-difference_of-d)
