@@ -6,9 +6,8 @@ use lib.Dec.{eqb, leb}
 use borrow.Author.Tests.{ne_eqb, eqb-true, leb-true, le-ltb}
 use Rattle.std.specs.Prelude.{if◌then◌else◌}
 use Rattle.charts.specs.Tests.{and_both}
-use Rattle.charts.specs.Charts.{applied_of}
 use Rattle.charts.specs.declared.Chart.{Chart}
-use Rattle.records.specs.Record.{Record, kind, mark, minute, difference_of}
+use Rattle.records.specs.Record.{Record, kind, mark, minute}
 use Rattle.records.specs.Kinds.{reads, resets, sets, pairs, empties, calibrates, passes, fails, counts, week_of, outside_by}
 use Rattle.records.specs.Table.{refusal_in}
 use Rattle.records.specs.State.{facts_of, chart_after, turns_from, applied_to}
@@ -69,13 +68,3 @@ module _ (st : State) (r : Record) (w : turns_from st.minute (minute r) ≡ fals
   pub minute_changes : kind r ≡ 7 → (mark r ≡ 0 → ⊥) → changed st.zero st.span st.total st.outside ≡ applied_to st r
   unfolding applied_to chart_after sets reads resets pairs empties calibrates passes fails counts
   minute_changes k h = rw (e, k, w, ne_eqb (mark r) 0 h)
-
-  pub zero_changes : kind r ≡ 2 → mark r ≡ 0 → (c : Chart) → c ≡ applied_of st.zero st.edition st.setting.zero (difference_of r)
-      → changed c st.span st.total st.outside ≡ applied_to st r
-  unfolding applied_to chart_after sets reads resets pairs empties calibrates passes fails counts
-  zero_changes k h c q = rw (e, k, w, h, q)
-
-  pub span_changes : kind r ≡ 2 → mark r ≡ 1 → (c : Chart) → c ≡ applied_of st.span st.edition st.setting.span (difference_of r)
-      → changed st.zero c st.total st.outside ≡ applied_to st r
-  unfolding applied_to chart_after sets reads resets pairs empties calibrates passes fails counts
-  span_changes k h c q = rw (e, k, w, h, q)

@@ -7,10 +7,11 @@ ghost use Rattle.records.specs.Soundness.{CalibrationSound, SettingSound, Sound}
 ghost use Rattle.records.specs.Table.{reading_refusal, refusal_in};
 ghost use Rattle.records.specs.State.{applied_to, facts_of, initial_of, judges as State·judges, no_pair, raised_of};
 ghost use Rattle.records.specs.InPlace.{InWeek, in_week_of};
-ghost use Rattle.records.specs.StateParts.{emptied as StateParts·emptied, judged_of, with_annual, with_calibration, with_failure, with_function, with_pair, with_period, with_reading, with_reset, with_value};
+ghost use Rattle.records.specs.StateParts.{chart_at, deviation_at, emptied as StateParts·emptied, judged_of, with_annual, with_calibration, with_chart, with_failure, with_function, with_pair, with_period, with_reading, with_reset, with_value};
 
 use crate::state::{Function, Setting, State, Waiting};
 use crate::{bytes, fields};
+use charts::Chart;
 
 // A place of the array that holds no pair.
 #[tactic(auto, unfolding(crate::specs::State::no_pair))]
@@ -190,34 +191,35 @@ fn count_value(st: &mut State, r: &[u8; 40])
     st.outside += u32::from(outside(&*st, r));
 }
 
-// A reading of the chart of its mark: 0 for zero, 1 for span.
+// The chart of a mark is changed, 0 for zero and 1 for span. Its standard deviation goes with it.
+#[inline(always)]
+fn change_chart<F: FnOnce(Chart, u16) -> Chart>(st: &mut State, mark: u8, change: F)
+    requires { F.pre change (chart_at st.old mark) (deviation_at st.old.setting mark) }
+    ensures { (after : Chart) × F.post change (chart_at st.old mark) (deviation_at st.old.setting mark) after × (st.new ≡ with_chart st.old mark after) }
+{
+    if mark == 0 {
+        st.zero = change(st.zero, st.setting.zero);
+    } else {
+        st.span = change(st.span, st.setting.span);
+    }
+}
+
 #[inline(always)]
 fn take_reading(st: &mut State, r: &[u8; 40])
     requires { (reading_ranged r.now ≡ true) × (reading_refusal (facts_of st.old) r.now ≡ 0) × Charts-as-Sound st.old.zero × Charts-as-Sound st.old.span }
     ensures { st.new ≡ with_reading st.old r.now }
 {
+    let edition = st.edition;
     let d = fields::difference_of(r);
-    if r[1] == 0 {
-        st.zero = st.zero.apply(st.edition, st.setting.zero, d);
-    } else {
-        st.span = st.span.apply(st.edition, st.setting.span, d);
-    }
+    change_chart(&mut *st, r[1], |chart, s| chart.apply(edition, s, d));
 }
 
-// A reset of the chart of its mark.
-fn with_reset(st: State, r: &[u8; 40]) -> State
+#[tactic(auto, unfolding(crate::specs::StateParts::with_reset, crate::specs::StateParts::with_zero, crate::specs::StateParts::with_span, crate::specs::Record::mark))]
+fn with_reset(mut st: State, r: &[u8; 40]) -> State
     ensures { result ≡ with_reset st r.now }
 {
-    if r[1] == 0 {
-        return State {
-            zero: st.zero.reset(),
-            ..st
-        };
-    }
-    State {
-        span: st.span.reset(),
-        ..st
-    }
+    change_chart(&mut st, r[1], |chart, _| chart.reset());
+    st
 }
 
 // A calibration closing: with mark 1 its stored figures come into force, else it has failed.
