@@ -1,5 +1,5 @@
 -- `closing::annual_refusal` meets its contract.
-use mathlib.Core.Path.{◌≡◌, refl, sym, ap, subst, ◌∙◌}
+use mathlib.Core.Path.{◌≡◌, refl, sym, ap, ◌∙◌}
 use mathlib.Core.Bool.{Bool, not}
 use Prim.Native.Nat.{ℕ}
 use native.Mathlib.Omega.{arith}
@@ -15,10 +15,9 @@ use Rattle.records.specs.Record.{Record}
 use Rattle.records.specs.Table.{Facts, annual_of, annual_refusal, stores_test}
 use Rattle.records.specs.State.{facts_of}
 use Rattle.refusals.proofs.RowLaws.{some_row, passed_on}
-use Rattle.records.specs.declared.state.State.{State}
 use Rattle.records.proofs.StateLaws.{thirty}
 use Rattle.records.proofs.closing.annual_refusal.Goals as goal
-use Rattle.records.proofs.closing.annual_refusal.Goals.{Start, After-stores_test}
+use Rattle.records.proofs.closing.annual_refusal.Goals.{Start}
 
 -- the definition by its two tests
 whole : (f : Facts) (r : Record) (t : Tested) {none stores : Bool} → t ≡ annual_of f → eqb t.refusal 0 ≡ none → stores_test t (length f.pending) r ≡ stores
@@ -39,21 +38,9 @@ counted : (s : Start) → length (facts_of s.args.st).pending ≡ s.args.st.pend
 unfolding facts_of
 counted s = let st = s.args.st in length-take-le st.pending st.pairs (omega (arith, s.requires.0.pending, thirty st _ s.well_formed.0))
 
--- past the first test the stored figures decide
-by-stores : (s : Start) (c : After-stores_test) {stores : Bool} → s.args.st ≡ c.args.st → c.stores_test.result ≡ stores
-    → annual_refusal (facts_of c.args.st) c.args.r.now ≡ (if not stores then 25 else 0)
-by-stores s c p h =
-    let t = tested (Ok c.in_ok-t.t) in
-    let n : length (facts_of c.args.st).pending ≡ c.args.st.pending = subst (λ (st : State). length (facts_of st).pending ≡ st.pending) p (counted s) in
-    whole (facts_of c.args.st) c.args.r.now t c.in_ok-t.ensures refl
-    (ap (λ (m : ℕ). stores_test t m c.args.r.now) n ∙ sym c.stores_test.ensures ∙ h)
-
-pub returns-then-not-stores_test : goal.returns-then-not-stores_test
-returns-then-not-stores_test c =
-    let at = goal.at.returns-then-not-stores_test c in
-    sym (by-stores at.Start at.After-stores_test refl c.if-not-stores_test.true)
-
 pub returns : goal.returns
 returns c =
-    let at = goal.at.returns c in
-    sym (by-stores at.Start at.After-stores_test refl c.if-not-stores_test.false)
+    let t = tested (Ok c.in_ok-t.t) in
+    c.stored.ensures
+    ∙ sym (whole (facts_of c.args.st) c.args.r.now t c.in_ok-t.ensures refl
+    (ap (λ (m : ℕ). stores_test t m c.args.r.now) (counted (goal.at.returns c).Start) ∙ sym c.stores_test.ensures))
