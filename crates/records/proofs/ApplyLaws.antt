@@ -13,7 +13,7 @@ use Rattle.charts.specs.Charts.{applied_of}
 use Rattle.charts.specs.Soundness.{Sound}
 use Rattle.charts.specs.declared.Chart.{Chart}
 use Rattle.charts.specs.Tests.{if_all}
-use Rattle.records.specs.Record.{Record, kind, mark, minute, difference_of, setting_of, waiting_of}
+use Rattle.records.specs.Record.{Record, kind, mark, minute, difference_of, function_of, setting_of, waiting_of}
 use Rattle.records.specs.Kinds.{reads, resets, sets, pairs, empties, calibrates, passes, fails, counts, outside_by, Demand}
 use Rattle.records.specs.Table.{reading_refusal}
 use Rattle.records.proofs.TableLaws.{zero_open, span_open}
@@ -132,3 +132,16 @@ module _ (st : State) (r : Record) where
           → with_chart st (mark r) (applied_of (chart_at st (mark r)) st.edition (deviation_at st.setting (mark r)) (difference_of r)) ≡ with_reading st r
       by_mark true e = rw e
       by_mark false e = rw e
+
+-- ---- a closing, by its mark
+
+module _ (j : State) (r : Record) (x : State) where
+  pub calibration_by : (mark r ≡ 1 → x ≡ with_function (emptied j) (function_of r)) → ((mark r ≡ 1 → ⊥) → x ≡ with_failure j (minute r)) → x ≡ with_calibration j r
+  unfolding with_calibration
+  calibration_by p f =
+      if_all (λ (s : State). x ≡ s) (eqb (mark r) 1) (with_function (emptied j) (function_of r)) (with_failure j (minute r)) (λ t. p (eqb_yes t)) (λ t. f (eqb_no t))
+
+  pub annual_by : (mark r ≡ 3 → x ≡ with_period (emptied j)) → ((mark r ≡ 3 → ⊥) → x ≡ with_failure j (minute r)) → x ≡ with_annual j r
+  unfolding with_annual
+  annual_by p f =
+      if_all (λ (s : State). x ≡ s) (eqb (mark r) 3) (with_period (emptied j)) (with_failure j (minute r)) (λ t. p (eqb_yes t)) (λ t. f (eqb_no t))

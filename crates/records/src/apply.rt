@@ -1,13 +1,13 @@
 // What an accepted record makes of the state.
-ghost use Rattle.std.specs.Prelude.{◌≡◌, true, false, ◌+◌, ◌<◌, ◌≤◌, if◌then◌else◌};
+ghost use Rattle.std.specs.Prelude.{◌≡◌, ◌≢◌, true, false, ◌+◌, ◌<◌, ◌≤◌, if◌then◌else◌};
 ghost use Rattle.charts.specs.Soundness.{Sound as Charts-as-Sound};
-ghost use Rattle.records.specs.Record.{mark, reading_ranged, value_ranged};
+ghost use Rattle.records.specs.Record.{mark, minute, reading_ranged, value_ranged};
 ghost use Rattle.records.specs.Kinds.{exceeds as Kinds·exceeds, outside_by};
 ghost use Rattle.records.specs.Soundness.{CalibrationSound, SettingSound, Sound};
 ghost use Rattle.records.specs.Table.{reading_refusal, refusal_in};
 ghost use Rattle.records.specs.State.{applied_to, facts_of, initial_of, judges as State·judges, no_pair, raised_of};
 ghost use Rattle.records.specs.InPlace.{InWeek, in_week_of};
-ghost use Rattle.records.specs.StateParts.{chart_at, deviation_at, emptied as StateParts·emptied, judged_of, with_annual, with_calibration, with_chart, with_failure, with_function, with_pair, with_period, with_reading, with_reset, with_value};
+ghost use Rattle.records.specs.StateParts.{chart_at, deviation_at, emptied as StateParts·emptied, judged_of, with_chart, with_failure, with_function, with_pair, with_period, with_reading, with_reset, with_value};
 
 use crate::state::{Function, Setting, State, Waiting};
 use crate::{bytes, fields};
@@ -222,22 +222,13 @@ fn with_reset(mut st: State, r: &[u8; 40]) -> State
     st
 }
 
-// A calibration closing: with mark 1 its stored figures come into force, else it has failed.
-fn with_calibration(st: State, r: &[u8; 40]) -> State
-    ensures { result ≡ with_calibration st r.now }
+// A closing: with the mark that passes its kind, what a pass does, else it has failed.
+fn with_closing<F: FnOnce(State) -> State>(st: State, r: &[u8; 40], pass: u8, passed: F) -> State
+    requires { F.pre passed st }
+    ensures { ((mark r.now ≡ pass) → F.post passed st result) × ((mark r.now ≢ pass) → result ≡ with_failure st (minute r.now)) }
 {
-    if r[1] == 1 {
-        return with_function(st, fields::function_of(r));
-    }
-    with_failure(st, bytes::read32(r, 4))
-}
-
-// An annual closing: with mark 3 it starts a period, else it has failed.
-fn with_annual(st: State, r: &[u8; 40]) -> State
-    ensures { result ≡ with_annual st r.now }
-{
-    if r[1] == 3 {
-        return with_period(st);
+    if r[1] == pass {
+        return passed(st);
     }
     with_failure(st, bytes::read32(r, 4))
 }
@@ -261,8 +252,9 @@ pub fn apply(st: State, r: &[u8; 40]) -> State
         }
         3 => with_reset(s, r),
         4 => with_pair(s, fields::waiting_of(r)),
-        5 => with_calibration(s, r),
-        6 => with_annual(s, r),
+        // A passed calibration comes into force with its stored figures, and a passed annual test starts a period.
+        5 => with_closing(s, r, 1, |s| with_function(s, fields::function_of(r))),
+        6 => with_closing(s, r, 3, |s| with_period(s)),
         7 => {
             let mut s = s;
             count_value(&mut s, r);

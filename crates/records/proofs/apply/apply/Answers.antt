@@ -11,7 +11,8 @@ use Rattle.records.specs.State.{facts_of}
 use Rattle.records.specs.StateParts.{with_setting, with_reading, with_reset, with_calibration, with_annual, emptied, judged_of}
 use Rattle.records.proofs.SoundnessLaws.{setting_known}
 use Rattle.records.specs.declared.state.State.{State}
-use Rattle.records.proofs.ApplyLaws.{no_kind, judged_total, judged_outside, applied_setting, applied_reading, applied_reset, applied_pair, applied_calibration, applied_annual, applied_value, applied_drop}
+use Rattle.records.proofs.ApplyLaws.{no_kind, judged_total, judged_outside, applied_setting, applied_reading, applied_reset, applied_pair, applied_calibration, applied_annual, calibration_by, annual_by, applied_value, applied_drop}
+use borrow.Author.Rules.{rules}
 use Rattle.records.proofs.apply.apply.Goals as goal
 use Rattle.records.proofs.apply.apply.Goals.{Start, After-judged-s}
 
@@ -105,15 +106,19 @@ pub returns-in-5 : goal.returns-in-5
 unfolding kind
 returns-in-5 c =
     let j = (goal.at.returns-in-5 c).After-judged-s in
-    let k = c.in-5.is in
-    c.with_calibration.ensures ∙ ap (λ (s : State). with_calibration s (recordOf j)) (judged-is j) ∙ applied_calibration (state_of j) (recordOf j) k
+    let r = recordOf j in
+    let C = c.with_closing.ensures in
+    calibration_by c.judged-s.result r c.with_closing.result (λ e. let p = C.0 e in search rules) C.1
+    ∙ ap (λ (s : State). with_calibration s r) (judged-is j) ∙ applied_calibration (state_of j) r c.in-5.is
 
 pub returns-in-6 : goal.returns-in-6
 unfolding kind
 returns-in-6 c =
     let j = (goal.at.returns-in-6 c).After-judged-s in
-    let k = c.in-6.is in
-    c.with_annual.ensures ∙ ap (λ (s : State). with_annual s (recordOf j)) (judged-is j) ∙ applied_annual (state_of j) (recordOf j) k
+    let r = recordOf j in
+    let C = c.with_closing-in-6.ensures in
+    annual_by c.judged-s.result r c.with_closing-in-6.result (λ e. let p = C.0 e in search rules) C.1
+    ∙ ap (λ (s : State). with_annual s r) (judged-is j) ∙ applied_annual (state_of j) r c.in-6.is
 
 pub returns-in-7 : goal.returns-in-7
 unfolding kind judged_of
