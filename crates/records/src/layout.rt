@@ -12,6 +12,7 @@ fn plain(r: &[u8; 40], marks: u8, end: usize) -> bool
     (r[1] <= marks) & (r[2] == 0) & ((r[3] == 0) & bytes::all_zero(r, end, 40))
 }
 
+#[tactic(auto, unfolding(crate::specs::Record::formed_of, crate::specs::Record::kind, crate::specs::Record::mark_limit, crate::specs::Record::fields_end))]
 pub fn formed(r: &[u8; 40]) -> bool
     ensures { result ≡ formed_of r.now }
 {

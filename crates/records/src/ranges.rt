@@ -36,6 +36,7 @@ fn value_ranged(r: &[u8; 40]) -> bool
 }
 
 // Every field that has a range is in it; of a closing that is Z alone.
+#[tactic(auto, unfolding(crate::specs::Record::ranged_of, crate::specs::Record::kind, crate::specs::Record::z_of))]
 pub fn ranged(r: &[u8; 40]) -> bool
     ensures { result ≡ ranged_of r.now }
 {

@@ -11,6 +11,7 @@ use crate::{apply, checks, closing, layout, ranges};
 use refusals::Refusal;
 
 // The rows of a record's own kind.
+#[tactic(auto, unfolding(crate::specs::Table::kind_refusal, crate::specs::Record::kind))]
 fn kind_refusal(st: State, r: &[u8; 40]) -> Result<(), Refusal>
     requires { Sound 4000000000 st × (misplaced (facts_of st) r.now ≡ false) × (ranged_of r.now ≡ true) }
     ensures { outcome_of result ≡ kind_refusal (facts_of st) r.now }
