@@ -22,6 +22,7 @@ fn no_pair() -> Waiting
 }
 
 // A fresh state for an analyser number.
+#[tactic(auto, unfolding(crate::specs::State::initial_of, crate::specs::Kinds::no_setting, crate::specs::State::no_pairs))]
 pub fn initial(analyser: u32) -> State
     ensures { result ≡ initial_of analyser }
 {
@@ -55,6 +56,7 @@ fn exceeds(percent: u64, outside: u32, total: u32) -> bool
 }
 
 // Whether the week that ends raises a call.
+#[tactic(auto, unfolding(crate::specs::State::judges))]
 fn judges(st: State) -> bool
     ensures { result ≡ State·judges st }
 {
@@ -80,6 +82,7 @@ fn demand_after(st: State, m: u32) -> Option<u32>
 }
 
 // A record of minute m is at hand: the week before it is judged where m is of a later one.
+#[tactic(auto, unfolding(crate::specs::StateParts::judged_of))]
 fn judged(st: State, m: u32) -> State
     requires { st.over < 4294967295 }
     ensures { result ≡ judged_of st m }
@@ -104,6 +107,7 @@ fn judged(st: State, m: u32) -> State
 
 // ---- kinds
 
+#[tactic(auto, unfolding(crate::specs::StateParts::with_pair))]
 fn with_pair(mut st: State, w: Waiting) -> State
     requires { st.pending < 30 }
     ensures { result ≡ with_pair st w }
@@ -113,6 +117,7 @@ fn with_pair(mut st: State, w: Waiting) -> State
     st
 }
 
+#[tactic(auto, unfolding(crate::specs::StateParts::emptied, crate::specs::State::no_pairs))]
 fn emptied(st: State) -> State
     ensures { result ≡ StateParts·emptied st }
 {
@@ -132,6 +137,7 @@ fn with_failure(st: State, m: u32) -> State
     }
 }
 
+#[tactic(auto, unfolding(crate::specs::StateParts::with_function))]
 fn with_function(st: State, f: Function) -> State
     ensures { result ≡ with_function (StateParts·emptied st) f }
 {
@@ -145,6 +151,7 @@ fn with_function(st: State, f: Function) -> State
     }
 }
 
+#[tactic(auto, unfolding(crate::specs::StateParts::with_period))]
 fn with_period(st: State) -> State
     ensures { result ≡ with_period (StateParts·emptied st) }
 {
@@ -179,6 +186,7 @@ fn outside(st: &State, r: &[u8; 40]) -> bool
 // A value: with another mark than 0 it doesn't count in its week. Values and readings, which are most records, lend the state and are inlined: by value, or at a
 // call, it is copied with its thirty pairs, and the reader takes up to twice as long.
 #[inline(always)]
+#[tactic(auto, unfolding(crate::specs::StateParts::with_value, crate::specs::Record::mark, crate::specs::StateParts::with_tally))]
 fn count_value(st: &mut State, r: &[u8; 40])
     requires counts { (st.old.total < 4294967295) × (st.old.outside < 4294967295) }
     requires figures { CalibrationSound st.old.calibration × SettingSound st.old.setting × (value_ranged r.now ≡ true) }
@@ -223,6 +231,7 @@ fn with_reset(mut st: State, r: &[u8; 40]) -> State
 }
 
 // A closing: with the mark that passes its kind, what a pass does, else it has failed.
+#[tactic(auto, unfolding(crate::specs::Record::mark, crate::specs::Record::minute))]
 fn with_closing<F: FnOnce(State) -> State>(st: State, r: &[u8; 40], pass: u8, passed: F) -> State
     requires { F.pre passed st }
     ensures { ((mark r.now ≡ pass) → F.post passed st result) × ((mark r.now ≢ pass) → result ≡ with_failure st (minute r.now)) }
@@ -269,6 +278,7 @@ pub fn apply(st: State, r: &[u8; 40]) -> State
 // ---- values and readings, which are most records, in the week of the record before: no week is judged, and the state is changed in place
 
 // Whether a record is of the kind given and of no later week than the last one.
+#[tactic(auto, unfolding(crate::specs::Record::kind, crate::specs::Record::minute, crate::specs::InPlace::in_week_of))]
 pub fn in_week(kind: u8, st: State, r: &[u8; 40]) -> bool
     ensures { result ≡ in_week_of kind st r.now }
 {

@@ -52,6 +52,7 @@ fn test_with(st: State, f: Function) -> Result<Verdicts, Refusal>
 }
 
 // An annual closing over the pairs that wait, with the function in force.
+#[tactic(auto, unfolding(crate::specs::Table::annual_by, crate::specs::State::facts_of))]
 pub fn annual_result(st: State) -> Result<Verdicts, Refusal>
     requires { Sound 4000000000 st × SettingSound st.setting }
     ensures { tested result ≡ annual_of (facts_of st) }
@@ -87,6 +88,7 @@ fn stores_fit(c: Figures, r: &[u8; 40]) -> bool
 }
 
 // Whether the stored mark and number of pairs are those of a test.
+#[tactic(auto, unfolding(crate::specs::Table::stores_test, crate::specs::Record::mark))]
 fn stores_test(t: Verdicts, n: u32, r: &[u8; 40]) -> bool
     requires { n ≤ 30 }
     ensures { result ≡ stores_test (tested (Ok t)) n r.now }
@@ -112,6 +114,7 @@ pub fn calibration_refusal(st: State, r: &[u8; 40]) -> Result<(), Refusal>
     stored(stores_fit(c, r))
 }
 
+#[tactic(auto, unfolding(crate::specs::Table::annual_refusal, crate::specs::State::facts_of))]
 pub fn annual_refusal(st: State, r: &[u8; 40]) -> Result<(), Refusal>
     requires { Sound 4000000000 st × SettingSound st.setting }
     ensures { outcome_of result ≡ annual_refusal (facts_of st) r.now }

@@ -22,6 +22,7 @@ pub fn long_field_at(r: &[u8], at: usize) -> i64
     i64::from_le_bytes(bytes::chunk(r, at))
 }
 
+#[tactic(auto, unfolding(crate::specs::Record::conditions_at))]
 pub fn conditions_at(r: &[u8], at: usize) -> Conditions
     requires { at + 16 ≤ length r.now }
     ensures { result ≡ conditions_at r.now at }
@@ -34,6 +35,7 @@ pub fn conditions_at(r: &[u8], at: usize) -> Conditions
     }
 }
 
+#[tactic(auto, unfolding(crate::specs::Record::requirements_of))]
 pub fn requirements_of(r: &[u8; 40]) -> Requirements
     ensures { result ≡ requirements_of r.now }
 {
@@ -64,6 +66,7 @@ pub fn difference_of(r: &[u8; 40]) -> i32
     charts::difference(field_at(r, 8), field_at(r, 12))
 }
 
+#[tactic(auto, unfolding(crate::specs::Record::pair_of))]
 pub fn pair_of(r: &[u8; 40]) -> Pair
     ensures { result ≡ pair_of r.now }
 {
@@ -82,6 +85,7 @@ pub fn length_of(r: &[u8; 40]) -> u32
     field_at(r, 8) as u32
 }
 
+#[tactic(auto, unfolding(crate::specs::Record::minute, crate::specs::Record::waiting_of))]
 pub fn waiting_of(r: &[u8; 40]) -> Waiting
     requires { (waiting_ranged r.now ≡ true) × (length_of r.now ≤ minute r.now) }
     ensures { result ≡ waiting_of r.now }
@@ -95,6 +99,7 @@ pub fn waiting_of(r: &[u8; 40]) -> Waiting
 }
 
 // The stored figures of a calibration closing, with its minute.
+#[tactic(auto, unfolding(crate::specs::Record::function_of, crate::specs::Record::minute))]
 pub fn function_of(r: &[u8; 40]) -> Function
     ensures { result ≡ function_of r.now }
 {

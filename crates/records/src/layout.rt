@@ -5,6 +5,7 @@ ghost use Rattle.records.specs.Record.{formed_of, plain_of};
 use crate::bytes;
 
 // A mark of at most `marks`, bytes 2 and 3 zero, and every byte from `end` on.
+#[tactic(auto, unfolding(crate::specs::Record::plain_of, crate::specs::Record::mark))]
 fn plain(r: &[u8; 40], marks: u8, end: usize) -> bool
     requires { end ≤ 40 }
     ensures { result ≡ plain_of marks end r.now }

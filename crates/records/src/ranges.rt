@@ -13,6 +13,7 @@ fn setting_ranged(r: &[u8; 40]) -> bool
                 & calibration::between(0, 60, fields::field_at(r, 28) as i64)))
 }
 
+#[tactic(auto, unfolding(crate::specs::Record::reading_ranged))]
 fn reading_ranged(r: &[u8; 40]) -> bool
     ensures { result ≡ reading_ranged r.now }
 {
@@ -28,6 +29,7 @@ fn waiting_ranged(r: &[u8; 40]) -> bool
             & calibration::pair_ranged(fields::pair_of(r)))
 }
 
+#[tactic(auto, unfolding(crate::specs::Record::value_ranged, crate::specs::Record::signal_of, crate::specs::Record::value_conditions))]
 fn value_ranged(r: &[u8; 40]) -> bool
     ensures { result ≡ value_ranged r.now }
 {
