@@ -31,7 +31,6 @@ no_kind l h n1 n2 n3 n4 n5 n6 n7 n8 = over h (past (past (past (past (past (past
     over : {k : ℕ} → k ≤ 8 → 9 ≤ k → ⊥
     over h l = omega arith
 
--- a call on the record of a call changes nothing
 -- one more where a test holds
 pub more : (n : ℕ) (b : Bool) → n + bool_byte b ≡ (if b then n + 1 else n)
 more n true = refl
@@ -43,6 +42,7 @@ unfolding raised_of
 raised_or None m = refl
 raised_or (Some first) m = refl
 
+-- a call on the record of a call changes nothing
 raised_again : (b : Bool) (d : Demand) (m : ℕ) → raised_of (if b then raised_of d m else d) m ≡ raised_of d m
 unfolding raised_of
 raised_again true None m = refl

