@@ -2,9 +2,8 @@
 use mathlib.Core.Path.{◌≡◌, refl}
 use mathlib.Core.Bool.{Bool, true, false, ◌&&◌}
 use mathlib.Core.Logic.{◌⊎◌, inl, inr, ⊎_elim}
-use Prim.Native.Nat.{ℕ, zero, suc, ◌+◌, ◌≤◌, ◌<◌}
+use Prim.Native.Nat.{ℕ, zero, suc, ◌≤◌, ◌<◌}
 use native.Mathlib.Omega.{arith}
-use mir.Val.{bool_byte}
 use lib.Dec.{eqb}
 use Rattle.std.specs.Prelude.{if◌then◌else◌, None, Some}
 use Rattle.std.specs.Option.{option_or}
@@ -20,21 +19,6 @@ use Rattle.records.proofs.TableLaws.{zero_open, span_open}
 use Rattle.records.specs.State.{facts_of, chart_after, turns_from, judges, raised_of, applied_to}
 use Rattle.records.specs.StateParts.{chart_at, deviation_at, with_chart, with_setting, with_zero, with_span, with_reading, with_reset, with_pair, emptied, with_failure, with_demand, with_function, with_calibration, with_period, with_annual, with_tally, with_value, judged_of}
 use Rattle.records.specs.declared.state.State.{State}
-
-past : {a k : ℕ} → a ≤ k → (k ≡ a → ⊥) → a + 1 ≤ k
-past l n = omega arith
-
--- no kind is left
-pub no_kind : {k : ℕ} → 1 ≤ k → k ≤ 8 → (k ≡ 1 → ⊥) → (k ≡ 2 → ⊥) → (k ≡ 3 → ⊥) → (k ≡ 4 → ⊥) → (k ≡ 5 → ⊥) → (k ≡ 6 → ⊥) → (k ≡ 7 → ⊥) → (k ≡ 8 → ⊥) → ⊥
-no_kind l h n1 n2 n3 n4 n5 n6 n7 n8 = over h (past (past (past (past (past (past (past (past l n1) n2) n3) n4) n5) n6) n7) n8)
-  where
-    over : {k : ℕ} → k ≤ 8 → 9 ≤ k → ⊥
-    over h l = omega arith
-
--- one more where a test holds
-pub more : (n : ℕ) (b : Bool) → n + bool_byte b ≡ (if b then n + 1 else n)
-more n true = refl
-more n false = omega arith
 
 -- the first call stays the first, as `Option::or` keeps it
 pub raised_or : (d : Demand) (m : ℕ) → option_or d (Some m) ≡ raised_of d m

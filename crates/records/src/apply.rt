@@ -164,6 +164,7 @@ fn with_period(st: State) -> State
 }
 
 // Whether a value is outside, with the function in force, by the edition of its block.
+#[tactic(auto, unfolding(crate::specs::Record::value_conditions, crate::specs::Kinds::outside_by, crate::specs::Kinds::line_of))]
 fn outside(st: &State, r: &[u8; 40]) -> bool
     requires { CalibrationSound st.now.calibration × SettingSound st.now.setting × (value_ranged r.now ≡ true) }
     ensures { result ≡ outside_by st.now.edition st.now.calibration st.now.setting r.now }

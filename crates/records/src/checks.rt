@@ -74,6 +74,7 @@ fn follows(w: Waiting, start: u32, length: u32) -> bool
     (w.end <= start) & ((60 <= length) | (w.start + 60 < start))
 }
 
+#[tactic(auto, unfolding(crate::specs::Table::times_fit, crate::specs::State::facts_of, crate::specs::Record::minute, crate::specs::Table::follows))]
 fn times_fit(st: State, r: &[u8; 40]) -> bool
     requires { Sound 4000000000 st × SettingSound st.setting × (waiting_ranged r.now ≡ true) }
     ensures { result ≡ times_fit (facts_of st) r.now }

@@ -106,6 +106,7 @@ fn stored(fits: bool) -> Result<(), Refusal>
     Ok(())
 }
 
+#[tactic(auto, unfolding(crate::specs::Table::calibration_refusal, crate::specs::Record::z_of, crate::specs::State::facts_of))]
 pub fn calibration_refusal(st: State, r: &[u8; 40]) -> Result<(), Refusal>
     requires { Sound 4000000000 st × SettingSound st.setting × ZRanged (z_of r.now) }
     ensures { outcome_of result ≡ calibration_refusal (facts_of st) r.now }

@@ -47,6 +47,7 @@ pub fn requirements_of(r: &[u8; 40]) -> Requirements
     }
 }
 
+#[tactic(auto, unfolding(crate::specs::Record::setting_of))]
 pub fn setting_of(r: &[u8; 40]) -> Setting
     requires { setting_ranged r.now ≡ true }
     ensures { result ≡ setting_of r.now }
@@ -60,6 +61,7 @@ pub fn setting_of(r: &[u8; 40]) -> Setting
 }
 
 // A reading's difference.
+#[tactic(auto, unfolding(crate::specs::Record::difference_of))]
 pub fn difference_of(r: &[u8; 40]) -> i32
     requires { reading_ranged r.now ≡ true }
     ensures { result ≡ difference_of r.now }

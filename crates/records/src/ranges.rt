@@ -4,6 +4,7 @@ ghost use Rattle.records.specs.Record.{ranged_of, reading_ranged, setting_ranged
 
 use crate::fields;
 
+#[tactic(auto, unfolding(crate::specs::Record::setting_ranged))]
 fn setting_ranged(r: &[u8; 40]) -> bool
     ensures { result ≡ setting_ranged r.now }
 {

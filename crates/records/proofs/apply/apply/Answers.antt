@@ -11,7 +11,7 @@ use Rattle.records.specs.State.{facts_of}
 use Rattle.records.specs.StateParts.{with_setting, with_reading, with_reset, with_calibration, with_annual, emptied, judged_of}
 use Rattle.records.proofs.SoundnessLaws.{setting_known}
 use Rattle.records.specs.declared.state.State.{State}
-use Rattle.records.proofs.ApplyLaws.{no_kind, judged_total, judged_outside, applied_setting, applied_reading, applied_reset, applied_pair, applied_calibration, applied_annual, calibration_by, annual_by, applied_value, applied_drop}
+use Rattle.records.proofs.ApplyLaws.{judged_total, judged_outside, applied_setting, applied_reading, applied_reset, applied_pair, applied_calibration, applied_annual, calibration_by, annual_by, applied_value, applied_drop}
 use borrow.Author.Rules.{rules}
 use Rattle.records.proofs.apply.apply.Goals as goal
 use Rattle.records.proofs.apply.apply.Goals.{Start, After-judged-s}
@@ -138,7 +138,4 @@ returns-in-0 c = let F = record-formed (goal.at.returns-in-0 c).After-judged-s i
 
 pub returns-in-9-to-255 : goal.returns-in-9-to-255
 unfolding kind
-returns-in-9-to-255 c =
-    let F = record-formed (goal.at.returns-in-9-to-255 c).After-judged-s in
-    let n = c.in-9-to-255.in-9-to-255-own.rest in
-    absurd (no_kind F.least F.most n.0.0.0.0.0.0.0.0.1 n.0.0.0.0.0.0.0.1 n.0.0.0.0.0.0.1 n.0.0.0.0.0.1 n.0.0.0.0.1 n.0.0.0.1 n.0.0.1 n.0.1)
+returns-in-9-to-255 c = let F = record-formed (goal.at.returns-in-9-to-255 c).After-judged-s in absurd (omega (arith, F.least, F.most))

@@ -9,10 +9,8 @@ use mir.Syntax.{w32}
 use mir.Val.{to_z, of_z}
 use borrow.Author.Tests.{ne_eqb}
 use Rattle.std.specs.Prelude.{if◌then◌else◌}
-use Rattle.calibration.specs.Pairs.{ZRanged}
-use Rattle.std.specs.Prelude.{Ok}
 use Rattle.refusals.specs.Rows.{number_of}
-use Rattle.calibration.specs.Outcomes.{Fitted, fitted, refused_fit}
+use Rattle.calibration.specs.Outcomes.{Fitted, refused_fit}
 use Rattle.records.specs.Record.{Record, z_of}
 use Rattle.records.specs.Table.{Facts, calibration_of, calibration_refusal, stores_fit}
 use Rattle.records.proofs.TableLaws.{calibration_count}
@@ -39,10 +37,6 @@ few : (s : Start) → length (facts_of s.args.st).pending ≤ 30
 unfolding facts_of
 few s = omega (arith, s.requires.0.pending, length-take s.args.st.pending s.args.st.pairs)
 
-pub calibration_result-requires : goal.calibration_result-requires
-calibration_result-requires c =
-    (c.requires.0, c.requires.1, subst ZRanged (sym (z-is (goal.at.calibration_result-requires c).After-field_at)) c.requires.2)
-
 pub returns-in_err-c : goal.returns-in_err-c
 returns-in_err-c c =
     let e = c.in_err-c.field-0.0 in
@@ -56,10 +50,3 @@ stores_fit-requires c =
     let at = goal.at.stores_fit-requires c in
     let f = facts_of c.args.st in
     subst (λ (u : Fitted). u.count ≤ 30) (sym c.in_ok-c.ensures) (calibration_count f _ (few at.Start))
-
-pub returns : goal.returns
-returns c =
-    let f = facts_of c.args.st in
-    let z = z-is (goal.at.returns c).After-field_at in
-    c.stored.ensures
-    ∙ sym (whole f c.args.r.now (fitted (Ok c.in_ok-c.c)) (c.in_ok-c.ensures ∙ ap (calibration_of f) z) refl (sym c.stores_fit.ensures))
