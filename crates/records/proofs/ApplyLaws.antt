@@ -2,34 +2,23 @@
 use mathlib.Core.Path.{◌≡◌, refl}
 use mathlib.Core.Bool.{Bool, true, false, ◌&&◌}
 use mathlib.Core.Logic.{◌⊎◌, inl, inr, ⊎_elim}
-use Prim.Native.Nat.{ℕ, zero, suc, ◌+◌, ◌≤◌}
+use Prim.Native.Nat.{ℕ, zero, suc, ◌≤◌, ◌<◌}
 use native.Mathlib.Omega.{arith}
-use mir.Val.{bool_byte}
 use lib.Dec.{eqb}
 use Rattle.std.specs.Prelude.{if◌then◌else◌, None, Some}
 use Rattle.std.specs.Option.{option_or}
+use Rattle.std.proofs.Math.Facts.{eqb_yes, eqb_no}
+use Rattle.charts.specs.Charts.{applied_of}
+use Rattle.charts.specs.Soundness.{Sound}
+use Rattle.charts.specs.declared.Chart.{Chart}
 use Rattle.charts.specs.Tests.{if_all}
-use Rattle.records.specs.Record.{Record, kind, mark, minute, setting_of, waiting_of}
+use Rattle.records.specs.Record.{Record, kind, mark, minute, difference_of, function_of, setting_of, waiting_of}
 use Rattle.records.specs.Kinds.{reads, resets, sets, pairs, empties, calibrates, passes, fails, counts, outside_by, Demand}
-use Rattle.records.specs.State.{chart_after, turns_from, judges, raised_of, applied_to}
-use Rattle.records.specs.StateParts.{with_setting, with_zero, with_span, with_reading, with_reset, with_pair, emptied, with_failure, with_demand, with_function, with_calibration, with_period, with_annual, with_tally, with_value, judged_of}
+use Rattle.records.specs.Table.{reading_refusal}
+use Rattle.records.proofs.TableLaws.{zero_open, span_open}
+use Rattle.records.specs.State.{facts_of, chart_after, turns_from, judges, raised_of, applied_to}
+use Rattle.records.specs.StateParts.{chart_at, deviation_at, with_chart, with_setting, with_zero, with_span, with_reading, with_reset, with_pair, emptied, with_failure, with_demand, with_function, with_calibration, with_period, with_annual, with_tally, with_value, judged_of}
 use Rattle.records.specs.declared.state.State.{State}
-
-past : {a k : ℕ} → a ≤ k → (k ≡ a → ⊥) → a + 1 ≤ k
-past l n = omega arith
-
--- no kind is left
-pub no_kind : {k : ℕ} → 1 ≤ k → k ≤ 8 → (k ≡ 1 → ⊥) → (k ≡ 2 → ⊥) → (k ≡ 3 → ⊥) → (k ≡ 4 → ⊥) → (k ≡ 5 → ⊥) → (k ≡ 6 → ⊥) → (k ≡ 7 → ⊥) → (k ≡ 8 → ⊥) → ⊥
-no_kind l h n1 n2 n3 n4 n5 n6 n7 n8 = over h (past (past (past (past (past (past (past (past l n1) n2) n3) n4) n5) n6) n7) n8)
-  where
-    over : {k : ℕ} → k ≤ 8 → 9 ≤ k → ⊥
-    over h l = omega arith
-
--- a call on the record of a call changes nothing
--- one more where a test holds
-pub more : (n : ℕ) (b : Bool) → n + bool_byte b ≡ (if b then n + 1 else n)
-more n true = refl
-more n false = omega arith
 
 -- the first call stays the first, as `Option::or` keeps it
 pub raised_or : (d : Demand) (m : ℕ) → option_or d (Some m) ≡ raised_of d m
@@ -37,6 +26,7 @@ unfolding raised_of
 raised_or None m = refl
 raised_or (Some first) m = refl
 
+-- a call on the record of a call changes nothing
 raised_again : (b : Bool) (d : Demand) (m : ℕ) → raised_of (if b then raised_of d m else d) m ≡ raised_of d m
 unfolding raised_of
 raised_again true None m = refl
@@ -103,3 +93,39 @@ module _ (st : State) (r : Record) where
   pub applied_drop : kind r ≡ 8 → emptied judged ≡ applied_to st r
   unfolding judged_of applied_to chart_after sets reads resets pairs empties calibrates passes fails counts emptied
   applied_drop k = rw k
+
+-- ---- the chart of a mark
+
+module _ (st : State) (r : Record) where
+  -- a reading that the table accepts finds room in its chart
+  pub chart_room : reading_refusal (facts_of st) r ≡ 0 → (chart_at st (mark r)).readings < 100000
+  unfolding facts_of
+  chart_room e =
+      if_all (λ (c : Chart). c.readings < 100000) (eqb (mark r) 0) st.zero st.span
+      (λ t. (zero_open (facts_of st) r e (eqb_yes t)).room)
+      (λ t. (span_open (facts_of st) r e (eqb_no t)).room)
+
+  pub chart_sound : Sound st.zero → Sound st.span → Sound (chart_at st (mark r))
+  chart_sound z s = if_all Sound (eqb (mark r) 0) st.zero st.span (λ t. z) (λ t. s)
+
+  pub reading_of_mark : with_chart st (mark r) (applied_of (chart_at st (mark r)) st.edition (deviation_at st.setting (mark r)) (difference_of r)) ≡ with_reading st r
+  unfolding with_reading with_zero with_span
+  reading_of_mark = by_mark (eqb (mark r) 0) refl
+    where
+      by_mark : (b : Bool) → eqb (mark r) 0 ≡ b
+          → with_chart st (mark r) (applied_of (chart_at st (mark r)) st.edition (deviation_at st.setting (mark r)) (difference_of r)) ≡ with_reading st r
+      by_mark true e = rw e
+      by_mark false e = rw e
+
+-- ---- a closing, by its mark
+
+module _ (j : State) (r : Record) (x : State) where
+  pub calibration_by : (mark r ≡ 1 → x ≡ with_function (emptied j) (function_of r)) → ((mark r ≡ 1 → ⊥) → x ≡ with_failure j (minute r)) → x ≡ with_calibration j r
+  unfolding with_calibration
+  calibration_by p f =
+      if_all (λ (s : State). x ≡ s) (eqb (mark r) 1) (with_function (emptied j) (function_of r)) (with_failure j (minute r)) (λ t. p (eqb_yes t)) (λ t. f (eqb_no t))
+
+  pub annual_by : (mark r ≡ 3 → x ≡ with_period (emptied j)) → ((mark r ≡ 3 → ⊥) → x ≡ with_failure j (minute r)) → x ≡ with_annual j r
+  unfolding with_annual
+  annual_by p f =
+      if_all (λ (s : State). x ≡ s) (eqb (mark r) 3) (with_period (emptied j)) (with_failure j (minute r)) (λ t. p (eqb_yes t)) (λ t. f (eqb_no t))

@@ -6,12 +6,12 @@ use lib.Dec.{eqb, leb}
 use borrow.Author.Tests.{ne_eqb, eqb-true, leb-true, le-ltb}
 use Rattle.std.specs.Prelude.{if◌then◌else◌}
 use Rattle.charts.specs.Tests.{and_both}
-use Rattle.charts.specs.Charts.{applied_of}
 use Rattle.charts.specs.declared.Chart.{Chart}
-use Rattle.records.specs.Record.{Record, kind, mark, minute, difference_of}
+use Rattle.records.specs.Record.{Record, kind, mark, minute}
 use Rattle.records.specs.Kinds.{reads, resets, sets, pairs, empties, calibrates, passes, fails, counts, week_of, outside_by}
 use Rattle.records.specs.Table.{refusal_in}
 use Rattle.records.specs.State.{facts_of, chart_after, turns_from, applied_to}
+use Rattle.records.specs.StateParts.{judged_of}
 use Rattle.records.specs.Soundness.{Sound}
 use Rattle.records.specs.InPlace.{in_week_of, InWeek}
 use Rattle.records.specs.declared.state.State.{State}
@@ -29,6 +29,13 @@ in_week k st r t s a =
       is = eqb-true (kind r) k p.0;
       week = le-ltb _ _ (leb-true (week_of (minute r)) (week_of st.minute) p.1);
     }
+
+-- ---- the state with the minute of a record of no later week is the judged state
+
+pub in_place : (st : State) (r : Record) (m : ℕ) → turns_from st.minute (minute r) ≡ false → m ≡ minute r
+    → record st { begun = true; minute = m } ≡ judged_of st (minute r)
+unfolding judged_of
+in_place st r m w e = rw (e, w)
 
 -- ---- applied_to, of a value and of a reading in the week of the record before
 
@@ -61,13 +68,3 @@ module _ (st : State) (r : Record) (w : turns_from st.minute (minute r) ≡ fals
   pub minute_changes : kind r ≡ 7 → (mark r ≡ 0 → ⊥) → changed st.zero st.span st.total st.outside ≡ applied_to st r
   unfolding applied_to chart_after sets reads resets pairs empties calibrates passes fails counts
   minute_changes k h = rw (e, k, w, ne_eqb (mark r) 0 h)
-
-  pub zero_changes : kind r ≡ 2 → mark r ≡ 0 → (c : Chart) → c ≡ applied_of st.zero st.edition st.setting.zero (difference_of r)
-      → changed c st.span st.total st.outside ≡ applied_to st r
-  unfolding applied_to chart_after sets reads resets pairs empties calibrates passes fails counts
-  zero_changes k h c q = rw (e, k, w, h, q)
-
-  pub span_changes : kind r ≡ 2 → mark r ≡ 1 → (c : Chart) → c ≡ applied_of st.span st.edition st.setting.span (difference_of r)
-      → changed st.zero c st.total st.outside ≡ applied_to st r
-  unfolding applied_to chart_after sets reads resets pairs empties calibrates passes fails counts
-  span_changes k h c q = rw (e, k, w, h, q)

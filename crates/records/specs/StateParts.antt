@@ -76,6 +76,16 @@ with_value st m outside =
     if eqb m 0 then with_tally st (st.total + 1) (if outside then st.outside + 1 else st.outside)
     else st
 
+-- the chart of a mark, 0 for zero and 1 for span, its standard deviation, and the state with that chart changed
+abbrev pub chart_at : State → ℕ → Chart
+chart_at st m = if eqb m 0 then st.zero else st.span
+
+abbrev pub deviation_at : Setting → ℕ → ℕ
+deviation_at s m = if eqb m 0 then s.zero else s.span
+
+abbrev pub with_chart : State → ℕ → Chart → State
+with_chart st m c = if eqb m 0 then record st { zero = c } else record st { span = c }
+
 -- a reading, and a reset, of the chart of its mark
 unfoldable pub with_reading : State → Record → State
 with_reading st r =

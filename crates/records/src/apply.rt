@@ -1,16 +1,17 @@
-// What an accepted record makes of the state.
-ghost use Rattle.std.specs.Prelude.{◌≡◌, true, false, ◌+◌, ◌<◌, ◌≤◌, if◌then◌else◌};
+// What an accepted record makes of the state. State and record, and state and minute, go side by side: a type for the two would be made at each call.
+ghost use Rattle.std.specs.Prelude.{◌≡◌, ◌≢◌, true, false, ◌+◌, ◌<◌, ◌≤◌, if◌then◌else◌};
 ghost use Rattle.charts.specs.Soundness.{Sound as Charts-as-Sound};
-ghost use Rattle.records.specs.Record.{reading_ranged, value_ranged};
+ghost use Rattle.records.specs.Record.{mark, minute, reading_ranged, value_ranged};
 ghost use Rattle.records.specs.Kinds.{exceeds as Kinds·exceeds, outside_by};
 ghost use Rattle.records.specs.Soundness.{CalibrationSound, SettingSound, Sound};
 ghost use Rattle.records.specs.Table.{reading_refusal, refusal_in};
 ghost use Rattle.records.specs.State.{applied_to, facts_of, initial_of, judges as State·judges, no_pair, raised_of};
 ghost use Rattle.records.specs.InPlace.{InWeek, in_week_of};
-ghost use Rattle.records.specs.StateParts.{emptied as StateParts·emptied, judged_of, with_annual, with_calibration, with_failure, with_function, with_pair, with_period, with_reading, with_reset, with_value};
+ghost use Rattle.records.specs.StateParts.{chart_at, deviation_at, emptied as StateParts·emptied, judged_of, with_chart, with_failure, with_function, with_pair, with_period, with_reading, with_reset, with_value};
 
 use crate::state::{Function, Setting, State, Waiting};
 use crate::{bytes, fields};
+use charts::Chart;
 
 // A place of the array that holds no pair.
 #[tactic(auto, unfolding(crate::specs::State::no_pair))]
@@ -21,6 +22,7 @@ fn no_pair() -> Waiting
 }
 
 // A fresh state for an analyser number.
+#[tactic(auto, unfolding(crate::specs::State::initial_of, crate::specs::Kinds::no_setting, crate::specs::State::no_pairs))]
 pub fn initial(analyser: u32) -> State
     ensures { result ≡ initial_of analyser }
 {
@@ -54,6 +56,7 @@ fn exceeds(percent: u64, outside: u32, total: u32) -> bool
 }
 
 // Whether the week that ends raises a call.
+#[tactic(auto, unfolding(crate::specs::State::judges))]
 fn judges(st: State) -> bool
     ensures { result ≡ State·judges st }
 {
@@ -79,6 +82,7 @@ fn demand_after(st: State, m: u32) -> Option<u32>
 }
 
 // A record of minute m is at hand: the week before it is judged where m is of a later one.
+#[tactic(auto, unfolding(crate::specs::StateParts::judged_of))]
 fn judged(st: State, m: u32) -> State
     requires { st.over < 4294967295 }
     ensures { result ≡ judged_of st m }
@@ -103,6 +107,7 @@ fn judged(st: State, m: u32) -> State
 
 // ---- kinds
 
+#[tactic(auto, unfolding(crate::specs::StateParts::with_pair))]
 fn with_pair(mut st: State, w: Waiting) -> State
     requires { st.pending < 30 }
     ensures { result ≡ with_pair st w }
@@ -112,6 +117,7 @@ fn with_pair(mut st: State, w: Waiting) -> State
     st
 }
 
+#[tactic(auto, unfolding(crate::specs::StateParts::emptied, crate::specs::State::no_pairs))]
 fn emptied(st: State) -> State
     ensures { result ≡ StateParts·emptied st }
 {
@@ -131,6 +137,7 @@ fn with_failure(st: State, m: u32) -> State
     }
 }
 
+#[tactic(auto, unfolding(crate::specs::StateParts::with_function))]
 fn with_function(st: State, f: Function) -> State
     ensures { result ≡ with_function (StateParts·emptied st) f }
 {
@@ -144,6 +151,7 @@ fn with_function(st: State, f: Function) -> State
     }
 }
 
+#[tactic(auto, unfolding(crate::specs::StateParts::with_period))]
 fn with_period(st: State) -> State
     ensures { result ≡ with_period (StateParts·emptied st) }
 {
@@ -156,6 +164,7 @@ fn with_period(st: State) -> State
 }
 
 // Whether a value is outside, with the function in force, by the edition of its block.
+#[tactic(auto, unfolding(crate::specs::Record::value_conditions, crate::specs::Kinds::outside_by, crate::specs::Kinds::line_of))]
 fn outside(st: &State, r: &[u8; 40]) -> bool
     requires { CalibrationSound st.now.calibration × SettingSound st.now.setting × (value_ranged r.now ≡ true) }
     ensures { result ≡ outside_by st.now.edition st.now.calibration st.now.setting r.now }
@@ -175,72 +184,62 @@ fn outside(st: &State, r: &[u8; 40]) -> bool
     }
 }
 
-// A value: with another mark than 0 it doesn't count in its week.
-fn with_value(st: State, mark: u8, outside: bool) -> State
-    requires { (st.total < 4294967295) × (st.outside < 4294967295) }
-    ensures { result ≡ with_value st mark outside }
+// A value: with another mark than 0 it doesn't count in its week. Values and readings, which are most records, lend the state and are inlined: by value, or at a
+// call, it is copied with its thirty pairs, and the reader takes up to twice as long.
+#[inline(always)]
+#[tactic(auto, unfolding(crate::specs::StateParts::with_value, crate::specs::Record::mark, crate::specs::StateParts::with_tally))]
+fn count_value(st: &mut State, r: &[u8; 40])
+    requires counts { (st.old.total < 4294967295) × (st.old.outside < 4294967295) }
+    requires figures { CalibrationSound st.old.calibration × SettingSound st.old.setting × (value_ranged r.now ≡ true) }
+    ensures { st.new ≡ with_value st.old (mark r.now) (outside_by st.old.edition st.old.calibration st.old.setting r.now) }
 {
-    if mark != 0 {
-        return st;
+    if r[1] != 0 {
+        return;
     }
-    State {
-        total: st.total + 1,
-        outside: st.outside + u32::from(outside),
-        ..st
+    st.total += 1;
+    st.outside += u32::from(outside(&*st, r));
+}
+
+// The chart of a mark is changed, 0 for zero and 1 for span. Its standard deviation goes with it. A closure, since a function that lends the chart of a mark makes
+// the reader slower by 9 percent on values and readings.
+#[inline(always)]
+fn change_chart<F: FnOnce(Chart, u16) -> Chart>(st: &mut State, mark: u8, change: F)
+    requires { F.pre change (chart_at st.old mark) (deviation_at st.old.setting mark) }
+    ensures { (after : Chart) × F.post change (chart_at st.old mark) (deviation_at st.old.setting mark) after × (st.new ≡ with_chart st.old mark after) }
+{
+    if mark == 0 {
+        st.zero = change(st.zero, st.setting.zero);
+    } else {
+        st.span = change(st.span, st.setting.span);
     }
 }
 
-// A reading of the chart of its mark: 0 for zero, 1 for span. The choice by the mark is no helper's: one would test it twice, to take the chart and to put it
-// back.
-fn with_reading(st: State, r: &[u8; 40]) -> State
-    requires { (reading_ranged r.now ≡ true) × (reading_refusal (facts_of st) r.now ≡ 0) × Charts-as-Sound st.zero × Charts-as-Sound st.span }
-    ensures { result ≡ with_reading st r.now }
+#[inline(always)]
+fn take_reading(st: &mut State, r: &[u8; 40])
+    requires { (reading_ranged r.now ≡ true) × (reading_refusal (facts_of st.old) r.now ≡ 0) × Charts-as-Sound st.old.zero × Charts-as-Sound st.old.span }
+    ensures { st.new ≡ with_reading st.old r.now }
 {
+    let edition = st.edition;
     let d = fields::difference_of(r);
-    if r[1] == 0 {
-        return State {
-            zero: st.zero.apply(st.edition, st.setting.zero, d),
-            ..st
-        };
-    }
-    State {
-        span: st.span.apply(st.edition, st.setting.span, d),
-        ..st
-    }
+    change_chart(&mut *st, r[1], |chart, s| chart.apply(edition, s, d));
 }
 
-// A reset of the chart of its mark.
-fn with_reset(st: State, r: &[u8; 40]) -> State
+#[tactic(auto, unfolding(crate::specs::StateParts::with_reset, crate::specs::StateParts::with_zero, crate::specs::StateParts::with_span, crate::specs::Record::mark))]
+fn with_reset(mut st: State, r: &[u8; 40]) -> State
     ensures { result ≡ with_reset st r.now }
 {
-    if r[1] == 0 {
-        return State {
-            zero: st.zero.reset(),
-            ..st
-        };
-    }
-    State {
-        span: st.span.reset(),
-        ..st
-    }
+    change_chart(&mut st, r[1], |chart, _| chart.reset());
+    st
 }
 
-// A calibration closing: with mark 1 its stored figures come into force, else it has failed.
-fn with_calibration(st: State, r: &[u8; 40]) -> State
-    ensures { result ≡ with_calibration st r.now }
+// A closing: with the mark that passes its kind, what a pass does, else it has failed.
+#[tactic(auto, unfolding(crate::specs::Record::mark, crate::specs::Record::minute))]
+fn with_closing<F: FnOnce(State) -> State>(st: State, r: &[u8; 40], pass: u8, passed: F) -> State
+    requires { F.pre passed st }
+    ensures { ((mark r.now ≡ pass) → F.post passed st result) × ((mark r.now ≢ pass) → result ≡ with_failure st (minute r.now)) }
 {
-    if r[1] == 1 {
-        return with_function(st, fields::function_of(r));
-    }
-    with_failure(st, bytes::read32(r, 4))
-}
-
-// An annual closing: with mark 3 it starts a period, else it has failed.
-fn with_annual(st: State, r: &[u8; 40]) -> State
-    ensures { result ≡ with_annual st r.now }
-{
-    if r[1] == 3 {
-        return with_period(st);
+    if r[1] == pass {
+        return passed(st);
     }
     with_failure(st, bytes::read32(r, 4))
 }
@@ -257,58 +256,53 @@ pub fn apply(st: State, r: &[u8; 40]) -> State
             setting: fields::setting_of(r),
             ..s
         },
-        2 => with_reading(s, r),
+        2 => {
+            let mut s = s;
+            take_reading(&mut s, r);
+            s
+        }
         3 => with_reset(s, r),
         4 => with_pair(s, fields::waiting_of(r)),
-        5 => with_calibration(s, r),
-        6 => with_annual(s, r),
-        7 => with_value(s, r[1], outside(&s, r)),
+        // A passed calibration comes into force with its stored figures, and a passed annual test starts a period.
+        5 => with_closing(s, r, 1, |s| with_function(s, fields::function_of(r))),
+        6 => with_closing(s, r, 3, |s| with_period(s)),
+        7 => {
+            let mut s = s;
+            count_value(&mut s, r);
+            s
+        }
         8 => emptied(s),
         0 => s,
         9..=255 => s,
     }
 }
 
-// ---- values and readings, which are most records, in the week of the record before: the state is changed in place, beside `with_value` and `with_reading`,
-// for the reader's speed
+// ---- values and readings, which are most records, in the week of the record before: no week is judged, and the state is changed in place
 
 // Whether a record is of the kind given and of no later week than the last one.
+#[tactic(auto, unfolding(crate::specs::Record::kind, crate::specs::Record::minute, crate::specs::InPlace::in_week_of))]
 pub fn in_week(kind: u8, st: State, r: &[u8; 40]) -> bool
     ensures { result ≡ in_week_of kind st r.now }
 {
     (r[0] == kind) & (bytes::read32(r, 4) / 10080 <= st.minute / 10080)
 }
 
-// A value: the minute changes, and with mark 0 the tally.
 pub fn value(mut st: State, r: &[u8; 40]) -> State
     requires { InWeek 7 st r.now }
     ensures { result ≡ applied_to st r.now }
 {
     st.begun = true;
     st.minute = bytes::read32(r, 4);
-    if r[1] != 0 {
-        return st;
-    }
-    st.total += 1;
-    if outside(&st, r) {
-        st.outside += 1;
-        return st;
-    }
+    count_value(&mut st, r);
     st
 }
 
-// A reading: the minute and the chart of its mark change.
 pub fn reading(mut st: State, r: &[u8; 40]) -> State
     requires { InWeek 2 st r.now }
     ensures { result ≡ applied_to st r.now }
 {
-    let d = fields::difference_of(r);
     st.begun = true;
     st.minute = bytes::read32(r, 4);
-    if r[1] == 0 {
-        st.zero = st.zero.apply(st.edition, st.setting.zero, d);
-        return st;
-    }
-    st.span = st.span.apply(st.edition, st.setting.span, d);
+    take_reading(&mut st, r);
     st
 }

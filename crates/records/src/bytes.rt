@@ -1,4 +1,4 @@
-// Numbers in bytes, unsigned and with the low byte first.
+// Numbers in bytes, unsigned and with the low byte first. Bytes and a place go side by side: a type for the two would be made for one read.
 ghost use Rattle.std.specs.Prelude.{◌≡◌, ◌+◌, ◌≤◌, ◌<◌, length, take, drop, replicate};
 ghost use Rattle.records.specs.Bytes.{all_zero, bytes16, bytes32, le16, le32, part, written};
 
@@ -10,7 +10,8 @@ pub(crate) fn chunk<const N: usize>(bytes: &[u8], at: usize) -> [u8; N]
     *bytes[at..].first_chunk().unwrap()
 }
 
-// The number in two bytes.
+// The number in two bytes. Two and four bytes have a function each, here and below: each is one call of the library, and a trait over the two widths is longer
+// than both.
 pub fn read16(bytes: &[u8], at: usize) -> u16
     requires { at + 2 ≤ length bytes.now }
     ensures { result ≡ le16 bytes.now at }

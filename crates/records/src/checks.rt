@@ -1,4 +1,5 @@
-// Where a record is stopped: the rows that ask of the records before it.
+// Where a record is stopped: the rows that ask of the records before it. State and record go side by side, and so do state and minute: a type for the two, or for
+// a pair's record with its ranges, would be made at each call.
 ghost use Rattle.std.specs.Prelude.{◌≡◌, true, false, not, map, ◌+◌, ◌-◌, ◌*◌, ◌<◌, ◌≤◌, length, if◌then◌else◌};
 ghost use Rattle.refusals.specs.Rows.{outcome_of};
 ghost use Rattle.records.specs.Record.{kind, length_of, minute, ranged_of, waiting_ranged};
@@ -14,6 +15,7 @@ use charts::Chart;
 use refusals::Refusal;
 
 // A setting that is not the first record, or a first record that is no setting.
+#[tactic(auto, unfolding(crate::specs::Table::misplaced, crate::specs::State::facts_of, crate::specs::Kinds::sets, crate::specs::Record::kind))]
 pub fn misplaced(st: State, r: &[u8; 40]) -> bool
     ensures { result ≡ Table·misplaced (facts_of st) r.now }
 {
@@ -21,6 +23,7 @@ pub fn misplaced(st: State, r: &[u8; 40]) -> bool
 }
 
 // Before the last record's minute, or over 100,000,000.
+#[tactic(auto, unfolding(crate::specs::Table::untimely, crate::specs::State::facts_of, crate::specs::Record::minute))]
 pub fn untimely(st: State, r: &[u8; 40]) -> bool
     ensures { result ≡ Table·untimely (facts_of st) r.now }
 {
@@ -28,6 +31,7 @@ pub fn untimely(st: State, r: &[u8; 40]) -> bool
     (m < st.minute) | (100000000 < m)
 }
 
+#[tactic(auto, unfolding(crate::specs::Table::chart_refusal))]
 fn chart_refusal(c: Chart) -> Result<(), Refusal>
     ensures { outcome_of result ≡ chart_refusal c.started c.readings }
 {
@@ -40,6 +44,8 @@ fn chart_refusal(c: Chart) -> Result<(), Refusal>
     Ok(())
 }
 
+// The chart of the mark is read here and changed in `apply::change_chart`: one function for both would take a closure to read two fields.
+#[tactic(auto, unfolding(crate::specs::Table::reading_refusal, crate::specs::State::facts_of, crate::specs::Record::mark))]
 pub fn reading_refusal(st: State, r: &[u8; 40]) -> Result<(), Refusal>
     ensures { outcome_of result ≡ reading_refusal (facts_of st) r.now }
 {
@@ -51,6 +57,7 @@ pub fn reading_refusal(st: State, r: &[u8; 40]) -> Result<(), Refusal>
 }
 
 // The response minutes, with their default.
+#[tactic(auto, unfolding(crate::specs::Kinds::response_of))]
 fn response(s: Setting) -> u32
     requires { SettingSound s }
     ensures { (result ≡ response_of s) × (result ≤ 60) }
@@ -59,6 +66,7 @@ fn response(s: Setting) -> u32
 }
 
 // Whether a pair starts late enough after the one before it.
+#[tactic(auto, unfolding(crate::specs::Table::follows_one))]
 fn follows(w: Waiting, start: u32, length: u32) -> bool
     requires { w.start ≤ 100000000 }
     ensures { result ≡ follows_one w start length }
@@ -66,6 +74,7 @@ fn follows(w: Waiting, start: u32, length: u32) -> bool
     (w.end <= start) & ((60 <= length) | (w.start + 60 < start))
 }
 
+#[tactic(auto, unfolding(crate::specs::Table::times_fit, crate::specs::State::facts_of, crate::specs::Record::minute, crate::specs::Table::follows))]
 fn times_fit(st: State, r: &[u8; 40]) -> bool
     requires { Sound 4000000000 st × SettingSound st.setting × (waiting_ranged r.now ≡ true) }
     ensures { result ≡ times_fit (facts_of st) r.now }
@@ -84,6 +93,7 @@ fn times_fit(st: State, r: &[u8; 40]) -> bool
     }
 }
 
+#[tactic(auto, unfolding(crate::specs::Table::pair_refusal, crate::specs::State::facts_of, crate::specs::Record::coverage_of))]
 pub fn pair_refusal(st: State, r: &[u8; 40]) -> Result<(), Refusal>
     requires { Sound 4000000000 st × SettingSound st.setting × (waiting_ranged r.now ≡ true) }
     ensures { outcome_of result ≡ pair_refusal (facts_of st) r.now }
@@ -136,6 +146,7 @@ pub fn figures(waiting: [Waiting; 30]) -> [Pair; 30]
     waiting.map(|w| w.pair)
 }
 
+#[tactic(auto, unfolding(crate::specs::Table::value_refusal, crate::specs::State::facts_of))]
 pub fn value_refusal(st: State) -> Result<(), Refusal>
     ensures { outcome_of result ≡ value_refusal (facts_of st) }
 {

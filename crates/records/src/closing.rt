@@ -1,5 +1,5 @@
 // Closings: the figures that the pairs that wait give, and whether a stored closing has them.
-ghost use Rattle.std.specs.Prelude.{◌≡◌, Ok, ◌≤◌, map, take};
+ghost use Rattle.std.specs.Prelude.{◌≡◌, Ok, ◌≤◌, if◌then◌else◌, map, not, take};
 ghost use Rattle.refusals.specs.Rows.{outcome_of};
 ghost use Rattle.calibration.specs.Pairs.{ZRanged};
 ghost use Rattle.calibration.specs.Calibration.{LineRanged};
@@ -16,6 +16,16 @@ use crate::{checks, fields};
 use calibration::{Basis, Figures, Verdicts};
 use refusals::Refusal;
 
+// What a closing is worked out by.
+fn basis(st: State) -> Basis
+    ensures { result ≡ record { edition = st.edition; requirements = st.setting.requirements } }
+{
+    Basis {
+        edition: st.edition,
+        requirements: st.setting.requirements,
+    }
+}
+
 // A calibration closing over the pairs that wait.
 pub fn calibration_result(st: State, z: i32) -> Result<Figures, Refusal>
     requires { Sound 4000000000 st × SettingSound st.setting × ZRanged z }
@@ -29,11 +39,7 @@ pub fn calibration_result(st: State, z: i32) -> Result<Figures, Refusal>
         return Err(Refusal::Days);
     }
     let pairs = checks::figures(st.pairs);
-    let b = Basis {
-        edition: st.edition,
-        requirements: st.setting.requirements,
-    };
-    calibration::fit(&pairs[..n], b, z)
+    calibration::fit(&pairs[..n], basis(st), z)
 }
 
 fn test_with(st: State, f: Function) -> Result<Verdicts, Refusal>
@@ -42,14 +48,11 @@ fn test_with(st: State, f: Function) -> Result<Verdicts, Refusal>
 {
     let n = st.pending as usize;
     let pairs = checks::figures(st.pairs);
-    let b = Basis {
-        edition: st.edition,
-        requirements: st.setting.requirements,
-    };
-    calibration::annual_test(&pairs[..n], b, f.line())
+    calibration::annual_test(&pairs[..n], basis(st), f.line())
 }
 
 // An annual closing over the pairs that wait, with the function in force.
+#[tactic(auto, unfolding(crate::specs::Table::annual_by, crate::specs::State::facts_of))]
 pub fn annual_result(st: State) -> Result<Verdicts, Refusal>
     requires { Sound 4000000000 st × SettingSound st.setting }
     ensures { tested result ≡ annual_of (facts_of st) }
@@ -60,7 +63,7 @@ pub fn annual_result(st: State) -> Result<Verdicts, Refusal>
     }
 }
 
-// The mark of a calibration closing: 1 where passed.
+// The mark of a calibration closing: 1 where passed. The two marks are bytes of a record by the paper's rule, and no conversion of the types.
 pub fn pass_mark(c: Figures) -> u8
     ensures { result ≡ pass_mark (fitted (Ok c)) }
 {
@@ -85,6 +88,7 @@ fn stores_fit(c: Figures, r: &[u8; 40]) -> bool
 }
 
 // Whether the stored mark and number of pairs are those of a test.
+#[tactic(auto, unfolding(crate::specs::Table::stores_test, crate::specs::Record::mark))]
 fn stores_test(t: Verdicts, n: u32, r: &[u8; 40]) -> bool
     requires { n ≤ 30 }
     ensures { result ≡ stores_test (tested (Ok t)) n r.now }
@@ -92,24 +96,30 @@ fn stores_test(t: Verdicts, n: u32, r: &[u8; 40]) -> bool
     (r[1] == test_mark(t)) & (fields::field_at(r, 8) == n as i32)
 }
 
-pub fn calibration_refusal(st: State, r: &[u8; 40]) -> Result<(), Refusal>
-    requires { Sound 4000000000 st × SettingSound st.setting × ZRanged (z_of r.now) }
-    ensures { outcome_of result ≡ calibration_refusal (facts_of st) r.now }
+// Row 25, where what is stored is not what was worked out.
+fn stored(fits: bool) -> Result<(), Refusal>
+    ensures { outcome_of result ≡ (if not fits then 25 else 0) }
 {
-    let c = calibration_result(st, fields::field_at(r, 8))?;
-    if !stores_fit(c, r) {
+    if !fits {
         return Err(Refusal::Stored);
     }
     Ok(())
 }
 
+#[tactic(auto, unfolding(crate::specs::Table::calibration_refusal, crate::specs::Record::z_of, crate::specs::State::facts_of))]
+pub fn calibration_refusal(st: State, r: &[u8; 40]) -> Result<(), Refusal>
+    requires { Sound 4000000000 st × SettingSound st.setting × ZRanged (z_of r.now) }
+    ensures { outcome_of result ≡ calibration_refusal (facts_of st) r.now }
+{
+    let c = calibration_result(st, fields::field_at(r, 8))?;
+    stored(stores_fit(c, r))
+}
+
+#[tactic(auto, unfolding(crate::specs::Table::annual_refusal, crate::specs::State::facts_of))]
 pub fn annual_refusal(st: State, r: &[u8; 40]) -> Result<(), Refusal>
     requires { Sound 4000000000 st × SettingSound st.setting }
     ensures { outcome_of result ≡ annual_refusal (facts_of st) r.now }
 {
     let t = annual_result(st)?;
-    if !stores_test(t, st.pending, r) {
-        return Err(Refusal::Stored);
-    }
-    Ok(())
+    stored(stores_test(t, st.pending, r))
 }

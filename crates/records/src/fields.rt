@@ -1,4 +1,5 @@
-// The figures of a record (paper 01, 'Records').
+// The figures of a record (paper 01, 'Records'). A record and a place go side by side, and the clause that a pair's fields are in range stands where it is needed:
+// the record is lent bytes, and a type for a record at a place, or for a pair's record, would be made at each call.
 ghost use Rattle.std.specs.Prelude.{◌≡◌, true, ◌+◌, ◌≤◌, length};
 ghost use Rattle.records.specs.Record.{conditions_at, difference_of, field, function_of, length_of, long_field, minute, pair_of, reading_ranged, requirements_of, setting_of, setting_ranged, waiting_of, waiting_ranged};
 
@@ -22,6 +23,7 @@ pub fn long_field_at(r: &[u8], at: usize) -> i64
     i64::from_le_bytes(bytes::chunk(r, at))
 }
 
+#[tactic(auto, unfolding(crate::specs::Record::conditions_at))]
 pub fn conditions_at(r: &[u8], at: usize) -> Conditions
     requires { at + 16 ≤ length r.now }
     ensures { result ≡ conditions_at r.now at }
@@ -34,6 +36,7 @@ pub fn conditions_at(r: &[u8], at: usize) -> Conditions
     }
 }
 
+#[tactic(auto, unfolding(crate::specs::Record::requirements_of))]
 pub fn requirements_of(r: &[u8; 40]) -> Requirements
     ensures { result ≡ requirements_of r.now }
 {
@@ -44,6 +47,7 @@ pub fn requirements_of(r: &[u8; 40]) -> Requirements
     }
 }
 
+#[tactic(auto, unfolding(crate::specs::Record::setting_of))]
 pub fn setting_of(r: &[u8; 40]) -> Setting
     requires { setting_ranged r.now ≡ true }
     ensures { result ≡ setting_of r.now }
@@ -57,6 +61,7 @@ pub fn setting_of(r: &[u8; 40]) -> Setting
 }
 
 // A reading's difference.
+#[tactic(auto, unfolding(crate::specs::Record::difference_of))]
 pub fn difference_of(r: &[u8; 40]) -> i32
     requires { reading_ranged r.now ≡ true }
     ensures { result ≡ difference_of r.now }
@@ -64,6 +69,7 @@ pub fn difference_of(r: &[u8; 40]) -> i32
     charts::difference(field_at(r, 8), field_at(r, 12))
 }
 
+#[tactic(auto, unfolding(crate::specs::Record::pair_of))]
 pub fn pair_of(r: &[u8; 40]) -> Pair
     ensures { result ≡ pair_of r.now }
 {
@@ -82,6 +88,7 @@ pub fn length_of(r: &[u8; 40]) -> u32
     field_at(r, 8) as u32
 }
 
+#[tactic(auto, unfolding(crate::specs::Record::minute, crate::specs::Record::waiting_of))]
 pub fn waiting_of(r: &[u8; 40]) -> Waiting
     requires { (waiting_ranged r.now ≡ true) × (length_of r.now ≤ minute r.now) }
     ensures { result ≡ waiting_of r.now }
@@ -95,6 +102,7 @@ pub fn waiting_of(r: &[u8; 40]) -> Waiting
 }
 
 // The stored figures of a calibration closing, with its minute.
+#[tactic(auto, unfolding(crate::specs::Record::function_of, crate::specs::Record::minute))]
 pub fn function_of(r: &[u8; 40]) -> Function
     ensures { result ≡ function_of r.now }
 {

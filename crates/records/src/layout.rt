@@ -5,6 +5,7 @@ ghost use Rattle.records.specs.Record.{formed_of, plain_of};
 use crate::bytes;
 
 // A mark of at most `marks`, bytes 2 and 3 zero, and every byte from `end` on.
+#[tactic(auto, unfolding(crate::specs::Record::plain_of, crate::specs::Record::mark))]
 fn plain(r: &[u8; 40], marks: u8, end: usize) -> bool
     requires { end ≤ 40 }
     ensures { result ≡ plain_of marks end r.now }
@@ -12,6 +13,7 @@ fn plain(r: &[u8; 40], marks: u8, end: usize) -> bool
     (r[1] <= marks) & (r[2] == 0) & ((r[3] == 0) & bytes::all_zero(r, end, 40))
 }
 
+#[tactic(auto, unfolding(crate::specs::Record::formed_of, crate::specs::Record::kind, crate::specs::Record::mark_limit, crate::specs::Record::fields_end))]
 pub fn formed(r: &[u8; 40]) -> bool
     ensures { result ≡ formed_of r.now }
 {

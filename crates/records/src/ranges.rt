@@ -4,6 +4,7 @@ ghost use Rattle.records.specs.Record.{ranged_of, reading_ranged, setting_ranged
 
 use crate::fields;
 
+#[tactic(auto, unfolding(crate::specs::Record::setting_ranged))]
 fn setting_ranged(r: &[u8; 40]) -> bool
     ensures { result ≡ setting_ranged r.now }
 {
@@ -13,6 +14,7 @@ fn setting_ranged(r: &[u8; 40]) -> bool
                 & calibration::between(0, 60, fields::field_at(r, 28) as i64)))
 }
 
+#[tactic(auto, unfolding(crate::specs::Record::reading_ranged))]
 fn reading_ranged(r: &[u8; 40]) -> bool
     ensures { result ≡ reading_ranged r.now }
 {
@@ -28,6 +30,7 @@ fn waiting_ranged(r: &[u8; 40]) -> bool
             & calibration::pair_ranged(fields::pair_of(r)))
 }
 
+#[tactic(auto, unfolding(crate::specs::Record::value_ranged, crate::specs::Record::signal_of, crate::specs::Record::value_conditions))]
 fn value_ranged(r: &[u8; 40]) -> bool
     ensures { result ≡ value_ranged r.now }
 {
@@ -36,6 +39,7 @@ fn value_ranged(r: &[u8; 40]) -> bool
 }
 
 // Every field that has a range is in it; of a closing that is Z alone.
+#[tactic(auto, unfolding(crate::specs::Record::ranged_of, crate::specs::Record::kind, crate::specs::Record::z_of))]
 pub fn ranged(r: &[u8; 40]) -> bool
     ensures { result ≡ ranged_of r.now }
 {

@@ -4,6 +4,7 @@ ghost use Rattle.records.specs.Soundness.{all_sound_of, begun_sound_of, calibrat
 
 use crate::state::{Function, Setting, State, Waiting};
 
+#[tactic(auto, unfolding(crate::specs::Soundness::setting_sound_of))]
 fn setting_sound(s: Setting) -> bool
     ensures { result ≡ setting_sound_of s }
 {
@@ -21,6 +22,7 @@ fn begun_sound(begun: bool, s: Setting) -> bool
     true
 }
 
+#[tactic(auto, unfolding(crate::specs::Soundness::waiting_sound_of))]
 fn waiting_sound(w: Waiting) -> bool
     ensures { result ≡ waiting_sound_of w }
 {
@@ -45,6 +47,7 @@ fn calibration_sound(k: Option<Function>) -> bool
 
 // Counts that go record by record are held to `most`. What is tested here stands in the clauses of the functions that need it, and is no ghost field of the
 // state: that is public, and a field would ask it of whoever makes one.
+#[tactic(auto, unfolding(crate::specs::Soundness::sound_of))]
 pub fn sound(most: u32, st: State) -> bool
     ensures { result ≡ sound_of most st }
 {

@@ -33,6 +33,7 @@ pub struct Function {
 
 impl Function {
     // The line that a fit gives, without the rest.
+    #[tactic(auto, unfolding(crate::specs::Kinds::line_of))]
     pub fn line(self) -> Line
         ensures { result ≡ line_of self }
     {

@@ -11,6 +11,7 @@ use crate::{apply, checks, closing, layout, ranges};
 use refusals::Refusal;
 
 // The rows of a record's own kind.
+#[tactic(auto, unfolding(crate::specs::Table::kind_refusal, crate::specs::Record::kind))]
 fn kind_refusal(st: State, r: &[u8; 40]) -> Result<(), Refusal>
     requires { Sound 4000000000 st × (misplaced (facts_of st) r.now ≡ false) × (ranged_of r.now ≡ true) }
     ensures { outcome_of result ≡ kind_refusal (facts_of st) r.now }
@@ -29,6 +30,7 @@ fn kind_refusal(st: State, r: &[u8; 40]) -> Result<(), Refusal>
 }
 
 // The table's rows from 10 on, downwards: the first that fits.
+#[tactic(auto, unfolding(crate::specs::Table::refusal_in))]
 pub fn refusal(st: State, r: &[u8; 40]) -> Result<(), Refusal>
     requires { Sound 4000000000 st }
     ensures { outcome_of result ≡ refusal_in (facts_of st) r.now }
@@ -49,6 +51,7 @@ pub fn refusal(st: State, r: &[u8; 40]) -> Result<(), Refusal>
 }
 
 // A record in a state: refused, or the state after it.
+#[tactic(auto, unfolding(crate::specs::State::step_of))]
 pub fn step(st: State, r: &[u8; 40]) -> Result<State, Refusal>
     requires { Sound 4000000000 st }
     ensures { stepped st result ≡ step_of st r.now }

@@ -2,7 +2,7 @@
 use mathlib.Core.Path.{◌≡◌, ap, ◌∙◌}
 use native.Mathlib.Omega.{arith}
 use lib.ListN.{length, length-take}
-use Rattle.records.specs.Record.{Record, kind, mark, minute, mark_limit}
+use Rattle.records.specs.Record.{Record, kind, minute, mark_limit}
 use Rattle.records.specs.RecordLaws.{FormedFields, formed_fields, setting_ranged_lem, reading_ranged_lem, waiting_ranged_lem, value_ranged_lem}
 use Rattle.records.specs.Kinds.{sets}
 use Rattle.records.specs.Table.{reading_refusal}
@@ -11,7 +11,8 @@ use Rattle.records.specs.State.{facts_of}
 use Rattle.records.specs.StateParts.{with_setting, with_reading, with_reset, with_calibration, with_annual, emptied, judged_of}
 use Rattle.records.proofs.SoundnessLaws.{setting_known}
 use Rattle.records.specs.declared.state.State.{State}
-use Rattle.records.proofs.ApplyLaws.{no_kind, judged_total, judged_outside, applied_setting, applied_reading, applied_reset, applied_pair, applied_calibration, applied_annual, applied_value, applied_drop}
+use Rattle.records.proofs.ApplyLaws.{judged_total, judged_outside, applied_setting, applied_reading, applied_reset, applied_pair, applied_calibration, applied_annual, calibration_by, annual_by, applied_value, applied_drop}
+use borrow.Author.Rules.{rules}
 use Rattle.records.proofs.apply.apply.Goals as goal
 use Rattle.records.proofs.apply.apply.Goals.{Start, After-judged-s}
 
@@ -44,10 +45,10 @@ setting_of-requires c =
     let j = (goal.at.setting_of-requires c).After-judged-s in
     (setting_ranged_lem (recordOf j) (passed j).ranged c.in-1.is)
 
-pub with_reading-requires : goal.with_reading-requires
+pub take_reading-requires : goal.take_reading-requires
 unfolding kind judged_of facts_of reading_refusal
-with_reading-requires c =
-    let j = (goal.at.with_reading-requires c).After-judged-s in
+take_reading-requires c =
+    let j = (goal.at.take_reading-requires c).After-judged-s in
     let A = passed j in
     rw (judged-is j)
     (reading_ranged_lem (recordOf j) A.ranged c.in-2.is, reading_passed (facts_of (state_of j)) (recordOf j) A c.in-2.is, c.requires.0.zero, c.requires.0.span)
@@ -64,18 +65,16 @@ with_pair-requires c =
     let j = (goal.at.with_pair-requires c).After-judged-s in
     rw (judged-is j) (omega (arith, (pair_fits j c.in-4.is).room, length-take (state_of j).pending (state_of j).pairs, places (goal.at.with_pair-requires c).Start))
 
-pub outside-requires : goal.outside-requires
+pub count_value-requires : goal.count_value-requires
 unfolding kind sets judged_of
-outside-requires c =
-    let j = (goal.at.outside-requires c).After-judged-s in
-    let k = c.in-7.is in
-    rw (judged-is j) (c.requires.0.calibration, setting_known (state_of j) (recordOf j) (passed j).placed (rw k tt) c.requires.0.setting, value_ranged_lem (recordOf j) (passed j).ranged k)
-
-pub with_value-requires : goal.with_value-requires
-with_value-requires c =
-    let j = (goal.at.with_value-requires c).After-judged-s in
+count_value-requires c =
+    let j = (goal.at.count_value-requires c).After-judged-s in
     let S = c.requires.0 in
-    rw (judged-is j) (omega (arith, judged_total (state_of j) (recordOf j), S.total), omega (arith, judged_outside (state_of j) (recordOf j), S.outside))
+    let k = c.in-7.is in
+    rw (judged-is j) record {
+      counts = (omega (arith, judged_total (state_of j) (recordOf j), S.total), omega (arith, judged_outside (state_of j) (recordOf j), S.outside));
+      figures = (S.calibration, setting_known (state_of j) (recordOf j) (passed j).placed (rw k tt) S.setting, value_ranged_lem (recordOf j) (passed j).ranged k);
+    }
 
 pub returns-in-1 : goal.returns-in-1
 unfolding kind with_setting
@@ -88,7 +87,7 @@ unfolding kind mark_limit
 returns-in-2 c =
     let j = (goal.at.returns-in-2 c).After-judged-s in
     let k = c.in-2.is in
-    c.with_reading.ensures ∙ ap (λ (s : State). with_reading s (recordOf j)) (judged-is j) ∙ applied_reading (state_of j) (recordOf j) k (rw k at (record-formed j).mark)
+    c.take_reading.ensures ∙ ap (λ (s : State). with_reading s (recordOf j)) (judged-is j) ∙ applied_reading (state_of j) (recordOf j) k (rw k at (record-formed j).mark)
 
 pub returns-in-3 : goal.returns-in-3
 unfolding kind mark_limit
@@ -107,21 +106,25 @@ pub returns-in-5 : goal.returns-in-5
 unfolding kind
 returns-in-5 c =
     let j = (goal.at.returns-in-5 c).After-judged-s in
-    let k = c.in-5.is in
-    c.with_calibration.ensures ∙ ap (λ (s : State). with_calibration s (recordOf j)) (judged-is j) ∙ applied_calibration (state_of j) (recordOf j) k
+    let r = recordOf j in
+    let C = c.with_closing.ensures in
+    calibration_by c.judged-s.result r c.with_closing.result (λ e. let p = C.0 e in search rules) C.1
+    ∙ ap (λ (s : State). with_calibration s r) (judged-is j) ∙ applied_calibration (state_of j) r c.in-5.is
 
 pub returns-in-6 : goal.returns-in-6
 unfolding kind
 returns-in-6 c =
     let j = (goal.at.returns-in-6 c).After-judged-s in
-    let k = c.in-6.is in
-    c.with_annual.ensures ∙ ap (λ (s : State). with_annual s (recordOf j)) (judged-is j) ∙ applied_annual (state_of j) (recordOf j) k
+    let r = recordOf j in
+    let C = c.with_closing-in-6.ensures in
+    annual_by c.judged-s.result r c.with_closing-in-6.result (λ e. let p = C.0 e in search rules) C.1
+    ∙ ap (λ (s : State). with_annual s r) (judged-is j) ∙ applied_annual (state_of j) r c.in-6.is
 
 pub returns-in-7 : goal.returns-in-7
-unfolding kind mark judged_of
+unfolding kind judged_of
 returns-in-7 c =
     let j = (goal.at.returns-in-7 c).After-judged-s in
-    c.with_value.ensures ∙ rw (c.outside.ensures, judged-is j) (applied_value (state_of j) (recordOf j) c.in-7.is)
+    c.count_value.ensures ∙ rw (judged-is j) (applied_value (state_of j) (recordOf j) c.in-7.is)
 
 pub returns-in-8 : goal.returns-in-8
 unfolding kind
@@ -135,7 +138,4 @@ returns-in-0 c = let F = record-formed (goal.at.returns-in-0 c).After-judged-s i
 
 pub returns-in-9-to-255 : goal.returns-in-9-to-255
 unfolding kind
-returns-in-9-to-255 c =
-    let F = record-formed (goal.at.returns-in-9-to-255 c).After-judged-s in
-    let n = c.in-9-to-255.in-9-to-255-own.rest in
-    absurd (no_kind F.least F.most n.0.0.0.0.0.0.0.0.1 n.0.0.0.0.0.0.0.1 n.0.0.0.0.0.0.1 n.0.0.0.0.0.1 n.0.0.0.0.1 n.0.0.0.1 n.0.0.1 n.0.1)
+returns-in-9-to-255 c = let F = record-formed (goal.at.returns-in-9-to-255 c).After-judged-s in absurd (omega (arith, F.least, F.most))

@@ -39,10 +39,6 @@ value-c-requires c =
       rw (signal-back k) (fields k).signal,
     )
 
-pub returns-in-None : goal.returns-in-None
-unfolding outside_by
-returns-in-None c = let a = c.args in sym (ap (λ (k : Calibration). outside_by a.st.now.edition k a.st.now.setting a.r.now) c.in-None.is)
-
 pub returns-in-Some : goal.returns-in-Some
 unfolding outside_by line_of value_conditions
 returns-in-Some c =

@@ -1,50 +1,30 @@
 -- `apply::value` meets its contract.
-use mathlib.Core.Path.{◌≡◌, sym, ◌∙◌}
-use mathlib.Core.Bool.{true, false}
+use mathlib.Core.Path.{ap, ◌∙◌}
 use Rattle.records.specs.Record.{kind, mark, minute}
 use Rattle.records.specs.RecordLaws.{value_ranged_lem}
-use Rattle.records.specs.Kinds.{sets}
-use Rattle.records.proofs.TableLaws.{Accepted, accepted}
+use Rattle.records.specs.Kinds.{sets, outside_by}
 use Rattle.records.specs.State.{facts_of}
+use Rattle.records.specs.StateParts.{with_value}
+use Rattle.records.specs.declared.state.State.{State}
+use Rattle.records.proofs.TableLaws.{accepted}
 use Rattle.records.proofs.SoundnessLaws.{setting_known}
-use Rattle.records.proofs.InPlaceLaws.{value_changes, minute_changes}
+use Rattle.records.proofs.ApplyLaws.{applied_value}
+use Rattle.records.proofs.InPlaceLaws.{in_place}
 use Rattle.records.proofs.apply.value.Goals as goal
-use Rattle.records.proofs.apply.value.Goals.{Start, After-read32}
 
-passed : (c : Start) → Accepted (facts_of c.args.st) c.args.r.now
-passed c = accepted (facts_of c.args.st) c.args.r.now c.requires.accepted
-
-time : (c : After-read32) → c.read32.result ≡ minute c.args.r.now
-unfolding minute
-time c = c.read32.ensures
-
-pub returns-then-r-ne0 : goal.returns-then-r-ne0
-unfolding mark
-returns-then-r-ne0 c =
-    let t = (goal.at.returns-then-r-ne0 c).After-read32 in
-    minute_changes c.args.st c.args.r.now c.requires.week c.read32.result (time t) c.requires.is c.if-r-ne0.true
-
-pub outside-requires : goal.outside-requires
+pub count_value-requires-clause-figures : goal.count_value-requires-clause-figures
 unfolding kind sets
-outside-requires c =
-    let s = (goal.at.outside-requires c).Start in
+count_value-requires-clause-figures c =
     let P = c.requires in
-    let r = c.args.r.now in (
-      P.sound.calibration,
-      setting_known c.args.st r (passed s).placed (rw P.is tt) P.sound.setting,
-      value_ranged_lem r (passed s).ranged P.is,
-    )
-
-pub returns-then-outside : goal.returns-then-outside
-unfolding mark
-returns-then-outside c =
-    let t = (goal.at.returns-then-outside c).After-read32 in
-    value_changes c.args.st c.args.r.now c.requires.week c.read32.result (time t) c.requires.is c.if-r-ne0.false true
-    (sym c.outside.ensures ∙ c.if-outside.true)
+    let r = c.args.r.now in
+    let A = accepted (facts_of c.args.st) r P.accepted in
+    (P.sound.calibration, setting_known c.args.st r A.placed (rw P.is tt) P.sound.setting, value_ranged_lem r A.ranged P.is)
 
 pub returns : goal.returns
-unfolding mark
+unfolding minute
 returns c =
-    let t = (goal.at.returns c).After-read32 in
-    value_changes c.args.st c.args.r.now c.requires.week c.read32.result (time t) c.requires.is c.if-r-ne0.false false
-    (sym c.outside.ensures ∙ c.if-outside.false)
+    let st = c.args.st in
+    let r = c.args.r.now in
+    c.count_value.ensures
+    ∙ ap (λ (s : State). with_value s (mark r) (outside_by st.edition st.calibration st.setting r)) (in_place st r c.read32.result c.requires.week c.read32.ensures)
+    ∙ applied_value st r c.requires.is

@@ -1,15 +1,15 @@
 -- `checks::times_fit` meets its contract.
-use mathlib.Core.Path.{◌≡◌, refl, sym, ◌∙◌}
+use mathlib.Core.Path.{◌≡◌, sym, ◌∙◌}
 use mathlib.Core.Bool.{Bool, ◌&&◌}
 use mathlib.Core.Option.{Option}
 use Prim.Native.Nat.{◌*◌, ◌-◌}
 use lib.ListN.{take}
 use lib.Dec.{leb}
-use borrow.Author.Tests.{le-leb, lt-leb}
+use borrow.Author.Tests.{le-leb}
 use Rattle.records.specs.Record.{minute}
 use Rattle.records.specs.Table.{times_fit, follows, last_of}
 use Rattle.records.specs.State.{facts_of}
-use Rattle.records.proofs.PairLaws.{last_none, last_some, last_sound}
+use Rattle.records.proofs.PairLaws.{last_some, last_sound}
 use Rattle.records.specs.declared.state.Waiting.{Waiting}
 use Rattle.records.proofs.checks.times_fit.Goals as goal
 use Rattle.records.proofs.checks.times_fit.Goals.{After-response, Else-m-l}
@@ -24,12 +24,6 @@ whole : (c : After-response) {long begun : Bool}
 unfolding times_fit facts_of minute
 whole c e f = rw (← c.length_of-l.ensures.0, ← c.read32-m.ensures, ← c.response.ensures.0, e, f)
 
-pub returns-then-l-response : goal.returns-then-l-response
-returns-then-l-response c = sym (whole (goal.at.returns-then-l-response c).After-response (lt-leb _ _ c.if-l-response.true) refl)
-
-pub returns-then-m-l : goal.returns-then-m-l
-returns-then-m-l c = sym (whole (goal.at.returns-then-m-l c).After-response (le-leb _ _ c.if-l-response.false) (lt-leb _ _ c.if-m-l.true))
-
 -- past the two tests the pair before decides
 by_last : (c : Else-m-l) {o : Option Waiting}
     → let k = c.length_of-l.result in
@@ -37,10 +31,6 @@ by_last : (c : Else-m-l) {o : Option Waiting}
     let a = c.args in
     last_of (take a.st.pending a.st.pairs) ≡ o → times_fit (facts_of a.st) a.r.now ≡ follows o (m - k) k
 by_last c e = whole c.before.before (le-leb _ _ c.if-l-response.false) (le-leb _ _ c.if-m-l.false) ∙ rw e
-
-pub returns-in-None : goal.returns-in-None
-unfolding follows
-returns-in-None c = sym (by_last (goal.at.returns-in-None c).Else-m-l (last_none (take c.args.st.pending c.args.st.pairs) c.in-None.ensures.value))
 
 pub follows-requires : goal.follows-requires
 follows-requires c = (last_sound (take c.args.st.pending c.args.st.pairs) _ c.in-Some.ensures.value c.requires.0.pairs).start

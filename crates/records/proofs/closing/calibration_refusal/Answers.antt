@@ -9,10 +9,8 @@ use mir.Syntax.{w32}
 use mir.Val.{to_z, of_z}
 use borrow.Author.Tests.{ne_eqb}
 use Rattle.std.specs.Prelude.{if◌then◌else◌}
-use Rattle.calibration.specs.Pairs.{ZRanged}
-use Rattle.std.specs.Prelude.{Ok}
 use Rattle.refusals.specs.Rows.{number_of}
-use Rattle.calibration.specs.Outcomes.{Fitted, fitted, refused_fit}
+use Rattle.calibration.specs.Outcomes.{Fitted, refused_fit}
 use Rattle.records.specs.Record.{Record, z_of}
 use Rattle.records.specs.Table.{Facts, calibration_of, calibration_refusal, stores_fit}
 use Rattle.records.proofs.TableLaws.{calibration_count}
@@ -20,7 +18,7 @@ use Rattle.records.specs.State.{facts_of}
 use Rattle.refusals.proofs.RowLaws.{some_row, passed_on}
 use Rattle.records.proofs.SignedLaws.{given}
 use Rattle.records.proofs.closing.calibration_refusal.Goals as goal
-use Rattle.records.proofs.closing.calibration_refusal.Goals.{Start, After-field_at, After-stores_fit}
+use Rattle.records.proofs.closing.calibration_refusal.Goals.{Start, After-field_at}
 
 -- the definition by its two tests
 whole : (f : Facts) (r : Record) (c : Fitted) {none stores : Bool} → c ≡ calibration_of f (z_of r) → eqb c.refusal 0 ≡ none → stores_fit c r ≡ stores
@@ -39,10 +37,6 @@ few : (s : Start) → length (facts_of s.args.st).pending ≤ 30
 unfolding facts_of
 few s = omega (arith, s.requires.0.pending, length-take s.args.st.pending s.args.st.pairs)
 
-pub calibration_result-requires : goal.calibration_result-requires
-calibration_result-requires c =
-    (c.requires.0, c.requires.1, subst ZRanged (sym (z-is (goal.at.calibration_result-requires c).After-field_at)) c.requires.2)
-
 pub returns-in_err-c : goal.returns-in_err-c
 returns-in_err-c c =
     let e = c.in_err-c.field-0.0 in
@@ -56,21 +50,3 @@ stores_fit-requires c =
     let at = goal.at.stores_fit-requires c in
     let f = facts_of c.args.st in
     subst (λ (u : Fitted). u.count ≤ 30) (sym c.in_ok-c.ensures) (calibration_count f _ (few at.Start))
-
--- past the first test the stored figures decide
-by-stores : (k : After-field_at) (c : After-stores_fit) {stores : Bool} → k.args.r.now ≡ c.args.r.now → k.field_at.result ≡ c.field_at.result → c.stores_fit.result ≡ stores
-    → calibration_refusal (facts_of c.args.st) c.args.r.now ≡ (if not stores then 25 else 0)
-by-stores k c p q h =
-    let f = facts_of c.args.st in
-    let z : to_z w32 (of_z w32 c.field_at.result) ≡ z_of c.args.r.now = rw (← q, ← p) (z-is k) in
-    whole f c.args.r.now (fitted (Ok c.in_ok-c.c)) (c.in_ok-c.ensures ∙ ap (calibration_of f) z) refl (sym c.stores_fit.ensures ∙ h)
-
-pub returns-then-not-stores_fit : goal.returns-then-not-stores_fit
-returns-then-not-stores_fit c =
-    let at = goal.at.returns-then-not-stores_fit c in
-    sym (by-stores at.After-field_at at.After-stores_fit refl refl c.if-not-stores_fit.true)
-
-pub returns : goal.returns
-returns c =
-    let at = goal.at.returns c in
-    sym (by-stores at.After-field_at at.After-stores_fit refl refl c.if-not-stores_fit.false)

@@ -6,13 +6,12 @@ use Rattle.calibration.specs.Pairs.{AllRanged}
 use Rattle.calibration.specs.Calibration.{count_fits, fit_of, refused_fit}
 use Rattle.calibration.proofs.VerdictLaws.{count_above}
 use Rattle.records.specs.Table.{calibration_of, days_fit, pair_of_waiting}
-use Rattle.records.specs.ListLaws.{map_take}
 use Rattle.records.proofs.SoundnessLaws.{pairs_ranged}
 use Rattle.records.specs.State.{facts_of}
 use Rattle.records.specs.declared.state.Waiting.{Waiting}
-use Rattle.records.proofs.StateLaws.{thirty}
+use Rattle.records.proofs.StateLaws.{thirty, waiting_figures}
 use Rattle.records.proofs.closing.calibration_result.Goals as goal
-use Rattle.records.proofs.closing.calibration_result.Goals.{After-figures-pairs, Else-not-count_fits, Start}
+use Rattle.records.proofs.closing.calibration_result.Goals.{Else-not-count_fits, Start}
 
 module _ (s : Start) where
   -- the pairs that wait
@@ -35,11 +34,6 @@ module _ (s : Start) where
 fits : (c : Else-not-count_fits) → count_fits c.args.st.pending ≡ true
 fits c = sym c.count_fits.ensures ∙ c.if-not-count_fits.false
 
-figures-are : (c : After-figures-pairs) → let st = c.args.st in take st.pending c.figures-pairs.result ≡ map pair_of_waiting (take st.pending st.pairs)
-figures-are c =
-    let st = c.args.st in
-    ap (take st.pending) c.figures-pairs.ensures ∙ sym (map_take pair_of_waiting st.pending st.pairs)
-
 pub returns-then-not-count_fits : goal.returns-then-not-count_fits
 returns-then-not-count_fits c =
     sym (whole (goal.at.returns-then-not-count_fits c).Start (sym c.count_fits.ensures ∙ c.if-not-count_fits.true) refl)
@@ -60,8 +54,8 @@ fit-requires c =
     let at = goal.at.fit-requires c in
     let S = c.requires.0 in (
       omega (arith, length-take st.pending c.figures-pairs.result, S.pending),
-      subst AllRanged (sym (figures-are at.After-figures-pairs)) (pairs_ranged (take st.pending st.pairs) S.pairs),
-      c.requires.1.requirements,
+      subst AllRanged (sym (waiting_figures st c.figures-pairs.ensures)) (pairs_ranged (take st.pending st.pairs) S.pairs),
+      rw c.basis.ensures c.requires.1.requirements,
       rw (z-back at.Start) c.requires.2,
     )
 
@@ -70,7 +64,7 @@ returns c =
     let st = c.args.st in
     let at = goal.at.returns c in
     let q = st.setting.requirements in
-    c.fit.ensures
+    rw c.basis.ensures at c.fit.ensures
     ∙ ap (λ (z : ℤ). fit_of st.edition q z (take st.pending c.figures-pairs.result)) (z-back at.Start)
-    ∙ ap (fit_of st.edition q c.args.z) (figures-are at.After-figures-pairs)
+    ∙ ap (fit_of st.edition q c.args.z) (waiting_figures st c.figures-pairs.ensures)
     ∙ sym (whole at.Start (fits at.Else-not-count_fits) (sym c.days_fit.ensures ∙ c.if-not-days_fit.false))

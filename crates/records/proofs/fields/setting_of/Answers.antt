@@ -1,10 +1,9 @@
 -- `fields::setting_of` meets its contract.
-use mathlib.Core.Path.{◌≡◌, ap}
+use mathlib.Core.Path.{◌≡◌}
 use lib.Dec.{lit<}
-use lib.IntN.{nat_abs}
 use mir.Syntax.{w16, w32}
 use mir.Val.{to_z, of_z}
-use Rattle.records.specs.Record.{setting_of, field}
+use Rattle.records.specs.Record.{field}
 use Rattle.records.specs.RecordLaws.{setting_fields}
 use Rattle.records.proofs.SignedLaws.{given, unsigned_need}
 use Rattle.records.proofs.fields.setting_of.Goals as goal
@@ -28,12 +27,3 @@ overflow_cast-result-2 c = unsigned_need w16 (lit< tt) (span (goal.at.overflow_c
 
 pub overflow_cast-result-3 : goal.overflow_cast-result-3
 overflow_cast-result-3 c = unsigned_need w32 (lit< tt) (response (goal.at.overflow_cast-result-3 c).After-field_at-3) (setting_fields _ c.requires).response
-
-pub returns : goal.returns
-unfolding setting_of
-returns c =
-    let at = goal.at.returns c in
-    let z = ap nat_abs (zero at.After-field_at) in
-    let s = ap nat_abs (span at.After-field_at-2) in
-    let m = ap nat_abs (response at.After-field_at-3) in
-    cc

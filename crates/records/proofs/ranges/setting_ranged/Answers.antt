@@ -1,18 +1,9 @@
 -- `ranges::setting_ranged` meets its contract.
 use lib.IntN.{pos}
 use Rattle.records.specs.Record.{setting_ranged}
-use Rattle.records.proofs.SignedLaws.{given_wide, given_between}
+use Rattle.records.proofs.SignedLaws.{given_between}
 use Rattle.records.proofs.ranges.setting_ranged.Goals as goal
 use Rattle.records.proofs.ranges.setting_ranged.Goals.{After-requirements_ranged, After-field_at, After-between, After-field_at-2, After-between-2, After-field_at-3}
-
-pub overflow_cast-field_at : goal.overflow_cast-field_at
-overflow_cast-field_at c = given_wide c.field_at.result c.field_at.type_inv
-
-pub overflow_cast-field_at-2 : goal.overflow_cast-field_at-2
-overflow_cast-field_at-2 c = given_wide c.field_at-2.result c.field_at-2.type_inv
-
-pub overflow_cast-field_at-3 : goal.overflow_cast-field_at-3
-overflow_cast-field_at-3 c = given_wide c.field_at-3.result c.field_at-3.type_inv
 
 pub returns : goal.returns
 unfolding setting_ranged

@@ -1,15 +1,9 @@
 -- `ranges::waiting_ranged` meets its contract.
 use lib.IntN.{pos}
 use Rattle.records.specs.Record.{waiting_ranged}
-use Rattle.records.proofs.SignedLaws.{given_wide, given_between}
+use Rattle.records.proofs.SignedLaws.{given_between}
 use Rattle.records.proofs.ranges.waiting_ranged.Goals as goal
 use Rattle.records.proofs.ranges.waiting_ranged.Goals.{After-field_at, After-between, After-field_at-2, After-between-2, After-pair_of}
-
-pub overflow_cast-field_at : goal.overflow_cast-field_at
-overflow_cast-field_at c = given_wide c.field_at.result c.field_at.type_inv
-
-pub overflow_cast-field_at-2 : goal.overflow_cast-field_at-2
-overflow_cast-field_at-2 c = given_wide c.field_at-2.result c.field_at-2.type_inv
 
 pub returns : goal.returns
 unfolding waiting_ranged

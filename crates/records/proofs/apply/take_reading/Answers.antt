@@ -1,0 +1,34 @@
+-- `apply::take_reading` meets its contract.
+use mathlib.Core.Path.{◌≡◌, ◌∙◌}
+use Prim.Native.Nat.{◌<◌}
+use mir.Syntax.{w32}
+use mir.Val.{to_z, of_z}
+use mir.Facts.{to_z-of_z}
+use borrow.Author.Rules.{rules}
+use Rattle.charts.specs.Soundness.{Sound, Ranged}
+use Rattle.records.specs.Record.{mark, difference_of}
+use Rattle.records.specs.RecordLaws.{reading_fields}
+use Rattle.records.specs.StateParts.{chart_at}
+use Rattle.records.proofs.ApplyLaws.{chart_room, chart_sound, reading_of_mark}
+use Rattle.records.proofs.apply.take_reading.Goals as goal
+use Rattle.records.proofs.apply.take_reading.Goals.{After-difference_of-d}
+
+back : (c : After-difference_of-d) → to_z w32 (of_z w32 c.difference_of-d.result) ≡ difference_of c.args.r.now
+back c = to_z-of_z {w = w32} (record { sfits = c.difference_of-d.type_inv }) ∙ c.difference_of-d.ensures
+
+pub change_chart-requires : goal.change_chart-requires
+unfolding mark
+change_chart-requires c =
+    let st = c.args.st.now in
+    let r = c.args.r.now in
+    let o : (chart_at st (mark r)).readings < 100000 = chart_room st r c.requires.1 in
+    let s : Sound (chart_at st (mark r)) = chart_sound st r c.requires.2 c.requires.3 in
+    let d : Ranged (to_z w32 (of_z w32 c.difference_of-d.result)) = rw (back (goal.at.change_chart-requires c).After-difference_of-d) (reading_fields r c.requires.0).difference in
+    search rules
+
+pub returns : goal.returns
+unfolding mark
+returns c =
+    let b = back (goal.at.returns c).After-difference_of-d in
+    let m = reading_of_mark c.args.st.now c.args.r.now in
+    search rules
