@@ -28,9 +28,10 @@ given w ok e = to_z-of_z (record { sfits = ok }) ∙ e
 pub given_wide : (x : ℤ) → mag x < 2 ^ hbits w32 → SFits w64 (to_z w32 (of_z w32 x))
 given_wide x ok = wide_need {z = x} (record { sfits = ok })
 
--- a range test of that
-pub given_between : (a b : ℤ) {x z : ℤ} {r : Bool} → mag x < 2 ^ hbits w32 → x ≡ z → r ≡ between_of a b (to_z w64 (of_z w64 (to_z w32 (of_z w32 x)))) → r ≡ between_of a b z
-given_between a b ok e h = wide_between a b (record { sfits = ok }) h ∙ ap (between_of a b) e
+-- a range test of that, taken as i64
+pub given_between : (a b : ℤ) {x y z : ℤ} {r : Bool} → mag x < 2 ^ hbits w32 → x ≡ z → y ≡ to_z w32 (of_z w32 x) → r ≡ between_of a b (to_z w64 (of_z w64 y)) → r ≡ between_of a b z
+given_between a b ok e f h =
+    wide_between a b (record { sfits = ok }) (h ∙ ap (λ (v : ℤ). between_of a b (to_z w64 (of_z w64 v))) f) ∙ ap (between_of a b) e
 
 -- ---- the same number
 

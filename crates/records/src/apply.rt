@@ -52,7 +52,7 @@ fn exceeds(percent: u64, outside: u32, total: u32) -> bool
     requires { percent ≤ 100 }
     ensures { result ≡ Kinds·exceeds percent outside total }
 {
-    percent * (total as u64) < 100 * (outside as u64)
+    percent * u64::from(total) < 100 * u64::from(outside)
 }
 
 // Whether the week that ends raises a call.
