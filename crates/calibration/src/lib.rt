@@ -575,7 +575,7 @@ pub fn annual_test(pairs: &[Pair], b: Basis, l: Line) -> Result<Verdicts, Refusa
 
 // ---- a lent list of pairs
 
-fn all_ranged(pairs: &[Pair]) -> bool
+pub fn all_ranged(pairs: &[Pair]) -> bool
     ensures { result ≡ list_all pair_ranged_of pairs.now }
 {
     pairs.iter().all(|p| pair_ranged(*p))
