@@ -64,6 +64,7 @@ fn try_near(edition: u8, n: i64, d: i64) -> Option<i64> {
     Some(charts::near(edition, n, d))
 }
 
+// The same over every u64, but for d 0. Two ranges and two calls: one function for both would be no shorter.
 fn try_near_unsigned(edition: u8, n: u64, d: u64) -> Option<u64> {
     if d == 0 {
         return None;
