@@ -83,10 +83,9 @@ pub fn command_of(word: &[u8], numbers: &[u64]) -> Option<Command> {
 
 // Z is the signed number of 32 bits that has the lowest four bytes.
 fn closing_of(kind: u64, minute: u64, z: u64) -> Option<Closing> {
-    let [a, b, c, d, ..] = z.to_le_bytes();
     Some(Closing {
         kind: u8::try_from(kind).ok()?,
         minute: u32::try_from(minute).ok()?,
-        z: i32::from_le_bytes([a, b, c, d]),
+        z: ((z & 0xffffffff) as u32).cast_signed(),
     })
 }
