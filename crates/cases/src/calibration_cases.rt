@@ -4,15 +4,14 @@
 // floor(x + 1/2), in edition 2 as Python's `round`, a slope as one fraction, both sides of each verdict as whole numbers of any size. The pairs of a
 // boundary were looked for there too: of all Q that whole D's can give, the last that passes and the first that fails.
 ghost use Rattle.std.specs.Prelude.{◌≡◌, ◌≤◌, length, true};
-ghost use Rattle.std.specs.List.{list_all};
-ghost use Rattle.calibration.specs.Pairs.{AllRanged, RequirementsRanged, pair_ranged_of};
+ghost use Rattle.calibration.specs.Pairs.{AllRanged, RequirementsRanged};
 
 use crate::print::Or;
 use crate::runner::Runner;
 use calibration::{Actual, Basis, Conditions, Figures, Line, Pair, Requirements, Verdicts};
 use refusals::Refusal;
 use std::alloc::{AllocError, Global};
-use std::{fmt, io};
+use std::{fmt, io, iter};
 
 // ---- what a case is given
 
@@ -68,40 +67,34 @@ impl Setup {
         }
     }
 
-    // n pairs with the signals and the SRM values of two lists.
+    // n pairs with the signals and SRM values of a list; past its end, the last ones.
     pub fn pairs(
         self,
         alloc: Global,
         n: usize,
-        signals: &[i32],
-        values: &[i32],
+        figures: &[(i32, i32)],
     ) -> Result<Vec<Pair>, AllocError> {
-        (0..n)
-            .map(|i| Pair {
-                signal: entry(signals, i),
-                srm: Actual(entry(values, i)),
+        let last = figures.last().copied().unwrap_or((0, 0));
+        figures
+            .iter()
+            .copied()
+            .chain(iter::repeat(last))
+            .take(n)
+            .enumerate()
+            .map(|(i, (signal, value))| Pair {
+                signal,
+                srm: Actual(value),
                 conditions: self.conditions(i == 0),
             })
             .collect(alloc)
     }
 }
 
-// An entry of a list; past its end, the last one.
-fn entry(list: &[i32], i: usize) -> i32 {
-    list.get(i).or(list.last()).copied().unwrap_or(0)
-}
-
-fn all_ranged(pairs: &[Pair]) -> bool
-    ensures { result ≡ list_all pair_ranged_of pairs.now }
-{
-    pairs.iter().all(|p| calibration::pair_ranged(*p))
-}
-
 // Whether there are at most thirty pairs, and they and the requirements are in range.
 fn ranged(pairs: &[Pair], q: Requirements) -> bool
     ensures { result ≡ true → (length pairs.now ≤ 30) × AllRanged pairs.now × RequirementsRanged q }
 {
-    if 30 < pairs.len() || !all_ranged(pairs) {
+    if 30 < pairs.len() || !calibration::all_ranged(pairs) {
         return false;
     }
     calibration::requirements_ranged(q)
@@ -286,46 +279,89 @@ const VALUE_CASES: [(i32, i32, i64, Conditions, i32); 17] = [
 
 // ---- fits
 
-// A name, the signals and the SRM values.
-type Case = (&'static str, &'static [i32], &'static [i32]);
+// A name, and the signals with their SRM values.
+type Case<'a> = (&'a str, &'a [(i32, i32)]);
 
-// Table E.2 of the standard, in hundredths: the signals and the SRM values.
-pub const SIGNALS: [i32; 15] = [
-    62600, 63000, 63700, 63300, 65400, 66800, 65200, 62600, 63300, 65400, 65000, 65500, 64300,
-    63400, 63800,
+// Table E.2 of the standard, in hundredths.
+pub const TABLE_E2: [(i32, i32); 15] = [
+    (62600, 62510),
+    (63000, 63040),
+    (63700, 63620),
+    (63300, 62490),
+    (65400, 64580),
+    (66800, 66470),
+    (65200, 65260),
+    (62600, 62540),
+    (63300, 63150),
+    (65400, 64370),
+    (65000, 63830),
+    (65500, 64310),
+    (64300, 63990),
+    (63400, 63380),
+    (63800, 64390),
 ];
 
-pub const VALUES: [i32; 15] = [
-    62510, 63040, 63620, 62490, 64580, 66470, 65260, 62540, 63150, 64370, 63830, 64310, 63990,
-    63380, 64390,
-];
+const TABLE: [Case<'static>; 1] = [("table-E.2", &TABLE_E2)];
 
-const TABLE: [Case; 1] = [("table-E.2", &SIGNALS, &VALUES)];
-
-const COUNT: [Case; 1] = [("count", &[1000], &[1000])];
-
-// Signals that are all 200,000. Σy is so near to Σx in the fits with them that B is 100,000; so c is 200,000, and D is y - 200,000.
-const FLAT: &[i32] = &[200000];
+const COUNT: [Case<'static>; 1] = [("count", &[(1000, 1000)])];
 
 const SPREAD: Setup = Neutral(400000, 10000, 0);
 
 // The pairs of the fit `half-A`: eight with 0, and others.
-const HALF_A_SIGNALS: [i32; 9] = [0, 0, 0, 0, 0, 0, 0, 0, 3];
-
-const HALF_A_VALUES: [i32; 9] = [0, 0, 0, 0, 0, 0, 0, 0, 16];
+const HALF_A: [(i32, i32); 9] = [
+    (0, 0),
+    (0, 0),
+    (0, 0),
+    (0, 0),
+    (0, 0),
+    (0, 0),
+    (0, 0),
+    (0, 0),
+    (3, 16),
+];
 
 // Fifteen times one number, and another.
-const LARGEST: [i32; 16] = [
-    400000, 400000, 400000, 400000, 400000, 400000, 400000, 400000, 400000, 400000, 400000, 400000,
-    400000, 400000, 400000, 0,
+const LARGEST: [(i32, i32); 16] = [
+    (400000, 400000),
+    (400000, 400000),
+    (400000, 400000),
+    (400000, 400000),
+    (400000, 400000),
+    (400000, 400000),
+    (400000, 400000),
+    (400000, 400000),
+    (400000, 400000),
+    (400000, 400000),
+    (400000, 400000),
+    (400000, 400000),
+    (400000, 400000),
+    (400000, 400000),
+    (400000, 400000),
+    (0, 0),
 ];
 
-const LAST_OUTSIDE: [i32; 16] = [
-    1000, 1000, 1000, 1000, 1000, 1000, 1000, 1000, 1000, 1000, 1000, 1000, 1000, 1000, 1000, -1,
+const LAST_OUTSIDE: [(i32, i32); 16] = [
+    (1000, 1000),
+    (1000, 1000),
+    (1000, 1000),
+    (1000, 1000),
+    (1000, 1000),
+    (1000, 1000),
+    (1000, 1000),
+    (1000, 1000),
+    (1000, 1000),
+    (1000, 1000),
+    (1000, 1000),
+    (1000, 1000),
+    (1000, 1000),
+    (1000, 1000),
+    (1000, 1000),
+    (-1, 1000),
 ];
 
-// How many pairs, their setup, and the cases with these.
-const FITS: [(usize, Setup, &[Case]); 54] = [
+// How many pairs, their setup, and the cases with these. Where the signals are all 200,000, Σy is so near to Σx that B is 100,000; so c is
+// 200,000, and D is y - 200,000.
+const FITS: [(usize, Setup, &[Case<'static>]); 54] = [
     // 6647 is the σ of the standard's example, and 534 the least with which the pairs of its table pass. Then cases 8 and 9.
     (15, Neutral(66470, 6647, 0), &TABLE),
     (15, Neutral(66470, 534, 0), &TABLE),
@@ -334,20 +370,16 @@ const FITS: [(usize, Setup, &[Case]); 54] = [
         15,
         Neutral(400000, 1, 0),
         &[
-            ("case-8", FLAT, &[200003, 200000]),
-            ("case-9", FLAT, &[200004, 200000]),
+            ("case-8", &[(200000, 200003), (200000, 200000)]),
+            ("case-9", &[(200000, 200004), (200000, 200000)]),
         ],
     ),
     // A half of B, of A and of the top; the top at 20 % of E and around it. The last has the table's pairs.
-    (15, Neutral(10000, 500, 0), &[("half-B", &[40000], &[1])]),
-    (
-        16,
-        Neutral(100, 500, 0),
-        &[("half-A", &HALF_A_SIGNALS, &HALF_A_VALUES)],
-    ),
-    (15, Neutral(100, 500, 0), &[("half-top", &[35], &[35])]),
-    (15, Neutral(190, 500, 0), &[("half-top", &[35], &[35])]),
-    (15, Neutral(200, 500, 0), &[("half-top", &[35], &[35])]),
+    (15, Neutral(10000, 500, 0), &[("half-B", &[(40000, 1)])]),
+    (16, Neutral(100, 500, 0), &[("half-A", &HALF_A)]),
+    (15, Neutral(100, 500, 0), &[("half-top", &[(35, 35)])]),
+    (15, Neutral(190, 500, 0), &[("half-top", &[(35, 35)])]),
+    (15, Neutral(200, 500, 0), &[("half-top", &[(35, 35)])]),
     (15, Neutral(400000, 6647, 0), &TABLE),
     // Each k. At this σ a calibration passes where Q is at most N(N-1)k². No D's give that Q itself for N 18 and 30, where the highest below it
     // is one less. The next that D's give is over it by 6, 7, 2, 2, 2, 4, 4 and 6.
@@ -355,64 +387,208 @@ const FITS: [(usize, Setup, &[Case]); 54] = [
         15,
         SPREAD,
         &[
-            ("k-most", FLAT, &[218315, 181527, 218206, 181952, 200000]),
-            ("k-next", FLAT, &[218283, 181421, 218238, 182061, 200000]),
+            (
+                "k-most",
+                &[
+                    (200000, 218315),
+                    (200000, 181527),
+                    (200000, 218206),
+                    (200000, 181952),
+                    (200000, 200000),
+                ],
+            ),
+            (
+                "k-next",
+                &[
+                    (200000, 218283),
+                    (200000, 181421),
+                    (200000, 218238),
+                    (200000, 182061),
+                    (200000, 200000),
+                ],
+            ),
         ],
     ),
     (
         16,
         SPREAD,
         &[
-            ("k-most", FLAT, &[219125, 181275, 218735, 180857, 200001]),
-            ("k-next", FLAT, &[219000, 180704, 218865, 181436, 200000]),
+            (
+                "k-most",
+                &[
+                    (200000, 219125),
+                    (200000, 181275),
+                    (200000, 218735),
+                    (200000, 180857),
+                    (200000, 200001),
+                ],
+            ),
+            (
+                "k-next",
+                &[
+                    (200000, 219000),
+                    (200000, 180704),
+                    (200000, 218865),
+                    (200000, 181436),
+                    (200000, 200000),
+                ],
+            ),
         ],
     ),
     (
         17,
         SPREAD,
         &[
-            ("k-most", FLAT, &[219582, 180418, 219582, 180418, 200000]),
-            ("k-next", FLAT, &[219553, 180180, 219613, 180661, 200000]),
+            (
+                "k-most",
+                &[
+                    (200000, 219582),
+                    (200000, 180418),
+                    (200000, 219582),
+                    (200000, 180418),
+                    (200000, 200000),
+                ],
+            ),
+            (
+                "k-next",
+                &[
+                    (200000, 219553),
+                    (200000, 180180),
+                    (200000, 219613),
+                    (200000, 180661),
+                    (200000, 200000),
+                ],
+            ),
         ],
     ),
     (
         18,
         SPREAD,
         &[
-            ("k-most", FLAT, &[220358, 179404, 220057, 180182, 200000]),
-            ("k-next", FLAT, &[220155, 179528, 220264, 180057, 200000]),
+            (
+                "k-most",
+                &[
+                    (200000, 220358),
+                    (200000, 179404),
+                    (200000, 220057),
+                    (200000, 180182),
+                    (200000, 200000),
+                ],
+            ),
+            (
+                "k-next",
+                &[
+                    (200000, 220155),
+                    (200000, 179528),
+                    (200000, 220264),
+                    (200000, 180057),
+                    (200000, 200000),
+                ],
+            ),
         ],
     ),
     (
         19,
         SPREAD,
         &[
-            ("k-most", FLAT, &[220832, 178814, 220802, 179552, 200000]),
-            ("k-next", FLAT, &[220743, 178823, 220894, 179546, 200000]),
+            (
+                "k-most",
+                &[
+                    (200000, 220832),
+                    (200000, 178814),
+                    (200000, 220802),
+                    (200000, 179552),
+                    (200000, 200000),
+                ],
+            ),
+            (
+                "k-next",
+                &[
+                    (200000, 220743),
+                    (200000, 178823),
+                    (200000, 220894),
+                    (200000, 179546),
+                    (200000, 200000),
+                ],
+            ),
         ],
     ),
     (
         20,
         SPREAD,
         &[
-            ("k-most", FLAT, &[221542, 178830, 221270, 178342, 200001]),
-            ("k-next", FLAT, &[221389, 178313, 221434, 178870, 200000]),
+            (
+                "k-most",
+                &[
+                    (200000, 221542),
+                    (200000, 178830),
+                    (200000, 221270),
+                    (200000, 178342),
+                    (200000, 200001),
+                ],
+            ),
+            (
+                "k-next",
+                &[
+                    (200000, 221389),
+                    (200000, 178313),
+                    (200000, 221434),
+                    (200000, 178870),
+                    (200000, 200000),
+                ],
+            ),
         ],
     ),
     (
         25,
         SPREAD,
         &[
-            ("k-most", FLAT, &[224323, 176203, 223972, 175481, 200001]),
-            ("k-next", FLAT, &[224133, 175596, 224180, 176102, 200000]),
+            (
+                "k-most",
+                &[
+                    (200000, 224323),
+                    (200000, 176203),
+                    (200000, 223972),
+                    (200000, 175481),
+                    (200000, 200001),
+                ],
+            ),
+            (
+                "k-next",
+                &[
+                    (200000, 224133),
+                    (200000, 175596),
+                    (200000, 224180),
+                    (200000, 176102),
+                    (200000, 200000),
+                ],
+            ),
         ],
     ),
     (
         30,
         SPREAD,
         &[
-            ("k-most", FLAT, &[226650, 173174, 226582, 173595, 200000]),
-            ("k-next", FLAT, &[226438, 173006, 226797, 173771, 200000]),
+            (
+                "k-most",
+                &[
+                    (200000, 226650),
+                    (200000, 173174),
+                    (200000, 226582),
+                    (200000, 173595),
+                    (200000, 200000),
+                ],
+            ),
+            (
+                "k-next",
+                &[
+                    (200000, 226438),
+                    (200000, 173006),
+                    (200000, 226797),
+                    (200000, 173771),
+                    (200000, 200000),
+                ],
+            ),
         ],
     ),
     // 15 % of 400 is 60. In neutral conditions the y' differ by what the name says; in half of water, by twice that.
@@ -420,28 +596,28 @@ const FITS: [(usize, Setup, &[Case]); 54] = [
         15,
         Neutral(400, 1, 0),
         &[
-            ("branch-59", &[1000, 1100], &[5000, 5059]),
-            ("branch-60", &[1000, 1100], &[5000, 5060]),
-            ("branch-61", &[1000, 1100], &[5000, 5061]),
+            ("branch-59", &[(1000, 5000), (1100, 5059)]),
+            ("branch-60", &[(1000, 5000), (1100, 5060)]),
+            ("branch-61", &[(1000, 5000), (1100, 5061)]),
         ],
     ),
     (
         15,
         Neutral(399, 1, 0),
-        &[("branch-60", &[1000, 1100], &[5000, 5060])],
+        &[("branch-60", &[(1000, 5000), (1100, 5060)])],
     ),
     (
         15,
         Neutral(401, 1, 0),
-        &[("branch-60", &[1000, 1100], &[5000, 5060])],
+        &[("branch-60", &[(1000, 5000), (1100, 5060)])],
     ),
     (
         15,
         Wet(400, 1, 0),
         &[
-            ("branch-wet-29", &[1000, 1100], &[5000, 5029]),
-            ("branch-wet-30", &[1000, 1100], &[5000, 5030]),
-            ("branch-wet-31", &[1000, 1100], &[5000, 5031]),
+            ("branch-wet-29", &[(1000, 5000), (1100, 5029)]),
+            ("branch-wet-30", &[(1000, 5000), (1100, 5030)]),
+            ("branch-wet-31", &[(1000, 5000), (1100, 5031)]),
         ],
     ),
     // The divisor of B, which the name tells: Σx - N·Z, then NΣx² - (Σx)².
@@ -449,18 +625,18 @@ const FITS: [(usize, Setup, &[Case]); 54] = [
         15,
         Neutral(400000, 1, 1000),
         &[
-            ("ratio-over-0", &[1000], &[1]),
-            ("ratio-over--1", &[999, 1000], &[1]),
-            ("ratio-over-1", &[1001, 1000], &[10, 0]),
+            ("ratio-over-0", &[(1000, 1)]),
+            ("ratio-over--1", &[(999, 1), (1000, 1)]),
+            ("ratio-over-1", &[(1001, 10), (1000, 0)]),
         ],
     ),
-    (15, Neutral(400000, 1, -1), &[("ratio-over-15", &[0], &[1])]),
+    (15, Neutral(400000, 1, -1), &[("ratio-over-15", &[(0, 1)])]),
     (
         15,
         Neutral(100, 1, 0),
         &[
-            ("squares-over-0", &[1000], &[0, 100]),
-            ("squares-over-56", &[1000, 1002], &[1000, 1015]),
+            ("squares-over-0", &[(1000, 0), (1000, 100)]),
+            ("squares-over-56", &[(1000, 1000), (1002, 1015)]),
         ],
     ),
     // B before its rounding, which the name tells (0.49 and 1000000.49 are just below the half), by the ratio, then by least squares.
@@ -468,24 +644,24 @@ const FITS: [(usize, Setup, &[Case]); 54] = [
         15,
         Neutral(400000, 1, 0),
         &[
-            ("ratio-0.5", &[200000, 0], &[1, 0]),
-            ("ratio-0.49", &[200001, 0], &[1, 0]),
-            ("ratio-0", &[200001], &[0]),
-            ("ratio-1000000", &[200000, 0], &[133338, 133333]),
-            ("ratio-1000000.49", &[200001, 0], &[133349, 133333]),
-            ("ratio-1000000.5", &[200000, 0], &[133339, 133333]),
+            ("ratio-0.5", &[(200000, 1), (0, 0)]),
+            ("ratio-0.49", &[(200001, 1), (0, 0)]),
+            ("ratio-0", &[(200001, 0)]),
+            ("ratio-1000000", &[(200000, 133338), (0, 133333)]),
+            ("ratio-1000000.49", &[(200001, 133349), (0, 133333)]),
+            ("ratio-1000000.5", &[(200000, 133339), (0, 133333)]),
         ],
     ),
     (
         17,
         Neutral(100, 1, 0),
         &[
-            ("squares-0.5", &[400000, 0], &[3, 16, 0]),
-            ("squares-0.48", &[400000, 0], &[3, 17, 0]),
-            ("squares--3.75", &[400000, 0], &[0, 15]),
-            ("squares-1000000", &[25000, 0], &[250000, 0]),
-            ("squares-1000000.25", &[25000, 0], &[250001, 15, 0]),
-            ("squares-1000000.5", &[25000, 0], &[250001, 14, 0]),
+            ("squares-0.5", &[(400000, 3), (0, 16), (0, 0)]),
+            ("squares-0.48", &[(400000, 3), (0, 17), (0, 0)]),
+            ("squares--3.75", &[(400000, 0), (0, 15)]),
+            ("squares-1000000", &[(25000, 250000), (0, 0)]),
+            ("squares-1000000.25", &[(25000, 250001), (0, 15), (0, 0)]),
+            ("squares-1000000.5", &[(25000, 250001), (0, 14), (0, 0)]),
         ],
     ),
     // The same, where B/100000 has the whole part 0, 1, 9, 10 and 11, then 1, three times -1, and -2: halves of B above an odd multiple of 100000,
@@ -494,22 +670,22 @@ const FITS: [(usize, Setup, &[Case]); 54] = [
         15,
         Neutral(400000, 1, 0),
         &[
-            ("ratio-99999.5", &[200000, 0], &[13337, 13333]),
-            ("ratio-100000.5", &[200000, 0], &[13339, 13333]),
-            ("ratio-999999.5", &[200000, 0], &[133337, 133333]),
-            ("ratio-1099999.5", &[200000, 0], &[146675, 146666]),
-            ("ratio-1100000", &[200000, 0], &[146676, 146666]),
+            ("ratio-99999.5", &[(200000, 13337), (0, 13333)]),
+            ("ratio-100000.5", &[(200000, 13339), (0, 13333)]),
+            ("ratio-999999.5", &[(200000, 133337), (0, 133333)]),
+            ("ratio-1099999.5", &[(200000, 146675), (0, 146666)]),
+            ("ratio-1100000", &[(200000, 146676), (0, 146666)]),
         ],
     ),
     (
         17,
         Neutral(100, 1, 0),
         &[
-            ("squares-150000.5", &[200000, 0], &[300001, 0]),
-            ("squares--0.25", &[400000, 0], &[0, 16, 0]),
-            ("squares--0.5", &[400000, 0], &[0, 32, 0]),
-            ("squares--100000", &[1000, 0], &[0, 1000]),
-            ("squares--150000", &[1000, 0], &[0, 1500]),
+            ("squares-150000.5", &[(200000, 300001), (0, 0)]),
+            ("squares--0.25", &[(400000, 0), (0, 16), (0, 0)]),
+            ("squares--0.5", &[(400000, 0), (0, 32), (0, 0)]),
+            ("squares--100000", &[(1000, 0), (0, 1000)]),
+            ("squares--150000", &[(1000, 0), (0, 1500)]),
         ],
     ),
     // A negative A: (100000Σy - BΣx)/N is -8014187 1/2, and with B not rounded it would be near -8014085; the first pair's c is -19. Then Z at its
@@ -517,58 +693,58 @@ const FITS: [(usize, Setup, &[Case]); 54] = [
     (
         16,
         Neutral(100, 100, 0),
-        &[("intercept-half", &[100, 200, 300], &[0, 6, 106])],
+        &[("intercept-half", &[(100, 0), (200, 6), (300, 106)])],
     ),
     (
         15,
         Neutral(400000, 1, 10000),
-        &[("Z-most", &[20000], &[10000])],
+        &[("Z-most", &[(20000, 10000)])],
     ),
     (
         15,
         Neutral(400000, 1, -10000),
-        &[("Z-least", &[20000], &[10000])],
+        &[("Z-least", &[(20000, 10000)])],
     ),
     (
         30,
         Neutral(400000, 1, 0),
         &[
-            ("largest", &[400000], &[400000]),
-            ("largest-squares", &LARGEST, &LARGEST),
+            ("largest", &[(400000, 400000)]),
+            ("largest-squares", &LARGEST),
         ],
     ),
     // A y' at 10,000,000 and one beyond, then a c, no other figure being beyond.
     (
         15,
         Hot(100),
-        &[("y-at", &[100000, 100000, 0], &[375000, 0])],
+        &[("y-at", &[(100000, 375000), (100000, 0), (0, 0)])],
     ),
     (
         15,
         Hot(92),
-        &[("y-beyond", &[100000, 100000, 0], &[373506, 0])],
+        &[("y-beyond", &[(100000, 373506), (100000, 0), (0, 0)])],
     ),
     (
         15,
         Hot(100),
-        &[("c-at", &[100000, 100000, 0], &[350000, 400000, 0])],
+        &[("c-at", &[(100000, 350000), (100000, 400000), (0, 0)])],
     ),
     (
         15,
         Hot(92),
-        &[("c-beyond", &[100000, 100000, 0], &[347012, 400000, 0])],
+        &[("c-beyond", &[(100000, 347012), (100000, 400000), (0, 0)])],
     ),
     // The order of the refusals. A y' is beyond throughout; with it the count does not fit and the divisor is 0; the divisor is 0; the slope is
     // negative; it is too steep; and nothing else.
-    (14, Hot(92), &[("order-20", &[1000], &[400000, 0])]),
+    (14, Hot(92), &[("order-20", &[(1000, 400000), (1000, 0)])]),
     (
         15,
         Hot(92),
         &[
-            ("order-22", &[1000], &[400000, 0]),
-            ("order-23", &[0, 1000], &[400000, 0]),
-            ("order-23", &[1000, 0], &[400000, 0]),
-            ("order-24", &[100000, 0], &[400000, 0]),
+            ("order-22", &[(1000, 400000), (1000, 0)]),
+            ("order-23", &[(0, 400000), (1000, 0)]),
+            ("order-23", &[(1000, 400000), (0, 0)]),
+            ("order-24", &[(100000, 400000), (0, 0)]),
         ],
     ),
     // Counts that do not fit.
@@ -580,29 +756,25 @@ const FITS: [(usize, Setup, &[Case]); 54] = [
     (29, Neutral(400000, 1, 0), &COUNT),
     (31, Neutral(400000, 1, 0), &COUNT),
     // One past each end, of the requirements and Z, then of the pairs.
-    (15, Neutral(99, 1, 0), &[("E-below", &[1], &[1])]),
-    (15, Neutral(400001, 1, 0), &[("E-above", &[1], &[1])]),
-    (15, Neutral(100, 0, 0), &[("sigma-below", &[1], &[1])]),
-    (15, Neutral(100, 10001, 0), &[("sigma-above", &[1], &[1])]),
-    (15, Neutral(100, 1, -10001), &[("Z-below", &[1], &[1])]),
-    (15, Neutral(100, 1, 10001), &[("Z-above", &[1], &[1])]),
+    (15, Neutral(99, 1, 0), &[("E-below", &[(1, 1)])]),
+    (15, Neutral(400001, 1, 0), &[("E-above", &[(1, 1)])]),
+    (15, Neutral(100, 0, 0), &[("sigma-below", &[(1, 1)])]),
+    (15, Neutral(100, 10001, 0), &[("sigma-above", &[(1, 1)])]),
+    (15, Neutral(100, 1, -10001), &[("Z-below", &[(1, 1)])]),
+    (15, Neutral(100, 1, 10001), &[("Z-above", &[(1, 1)])]),
     // A pair past N plays no part, though it be outside.
     (
         15,
         Neutral(100, 1, 0),
         &[
-            ("x-below", &[-1], &[1]),
-            ("x-above", &[400001], &[1]),
-            ("y-below", &[1], &[-1]),
-            ("y-above", &[1], &[400001]),
-            ("past-n", &LAST_OUTSIDE, &[1000]),
+            ("x-below", &[(-1, 1)]),
+            ("x-above", &[(400001, 1)]),
+            ("y-below", &[(1, -1)]),
+            ("y-above", &[(1, 400001)]),
+            ("past-n", &LAST_OUTSIDE),
         ],
     ),
-    (
-        16,
-        Neutral(100, 1, 0),
-        &[("past-n", &LAST_OUTSIDE, &[1000])],
-    ),
+    (16, Neutral(100, 1, 0), &[("past-n", &LAST_OUTSIDE)]),
 ];
 
 // ---- annual tests
@@ -636,28 +808,28 @@ const NO_LINE: Line = Line {
 };
 
 // How many pairs, their setup, the function in force, and the cases with these.
-const ANNUAL_TESTS: [(usize, Setup, Line, &[Case]); 27] = [
+const ANNUAL_TESTS: [(usize, Setup, Line, &[Case<'static>]); 27] = [
     // Cases 10 and 11, by two functions, and with the D's turned negative. With ΣD one over Nσ, a Q of 4 is enough.
     (
         5,
         Neutral(100, 700, 0),
         SAME,
-        &[("case-10", &[1000], &[1700]), ("case-11", &[1000], &[1701])],
+        &[("case-10", &[(1000, 1700)]), ("case-11", &[(1000, 1701)])],
     ),
     (
         5,
         Neutral(100, 700, 0),
         HALF,
-        &[("case-10", &[4000], &[1700]), ("case-11", &[4000], &[1701])],
+        &[("case-10", &[(4000, 1700)]), ("case-11", &[(4000, 1701)])],
     ),
     (
         5,
         Neutral(100, 700, 0),
         SAME,
         &[
-            ("turned-10", &[1700], &[1000]),
-            ("turned-11", &[1701], &[1000]),
-            ("one-over", &[1000], &[1701, 1700]),
+            ("turned-10", &[(1700, 1000)]),
+            ("turned-11", &[(1701, 1000)]),
+            ("one-over", &[(1000, 1701), (1000, 1700)]),
         ],
     ),
     // Counts that do not fit. Those that do, 5 to 8, have their k and T below.
@@ -674,8 +846,26 @@ const ANNUAL_TESTS: [(usize, Setup, Line, &[Case]); 27] = [
         Neutral(100, 10000, 0),
         SAME,
         &[
-            ("k-most", FLAT, &[213761, 185910, 213718, 186612, 200000]),
-            ("k-next", FLAT, &[213742, 186259, 213742, 186259, 200000]),
+            (
+                "k-most",
+                &[
+                    (200000, 213761),
+                    (200000, 185910),
+                    (200000, 213718),
+                    (200000, 186612),
+                    (200000, 200000),
+                ],
+            ),
+            (
+                "k-next",
+                &[
+                    (200000, 213742),
+                    (200000, 186259),
+                    (200000, 213742),
+                    (200000, 186259),
+                    (200000, 200000),
+                ],
+            ),
         ],
     ),
     (
@@ -683,8 +873,26 @@ const ANNUAL_TESTS: [(usize, Setup, Line, &[Case]); 27] = [
         Neutral(100, 10000, 0),
         SAME,
         &[
-            ("k-most", FLAT, &[215720, 184123, 215569, 184589, 200000]),
-            ("k-next", FLAT, &[215680, 184032, 215608, 184682, 200000]),
+            (
+                "k-most",
+                &[
+                    (200000, 215720),
+                    (200000, 184123),
+                    (200000, 215569),
+                    (200000, 184589),
+                    (200000, 200000),
+                ],
+            ),
+            (
+                "k-next",
+                &[
+                    (200000, 215680),
+                    (200000, 184032),
+                    (200000, 215608),
+                    (200000, 184682),
+                    (200000, 200000),
+                ],
+            ),
         ],
     ),
     (
@@ -692,8 +900,26 @@ const ANNUAL_TESTS: [(usize, Setup, Line, &[Case]); 27] = [
         Neutral(100, 10000, 0),
         SAME,
         &[
-            ("k-most", FLAT, &[217316, 182535, 217373, 182778, 200000]),
-            ("k-next", FLAT, &[217587, 182565, 217101, 182750, 200000]),
+            (
+                "k-most",
+                &[
+                    (200000, 217316),
+                    (200000, 182535),
+                    (200000, 217373),
+                    (200000, 182778),
+                    (200000, 200000),
+                ],
+            ),
+            (
+                "k-next",
+                &[
+                    (200000, 217587),
+                    (200000, 182565),
+                    (200000, 217101),
+                    (200000, 182750),
+                    (200000, 200000),
+                ],
+            ),
         ],
     ),
     (
@@ -701,8 +927,26 @@ const ANNUAL_TESTS: [(usize, Setup, Line, &[Case]); 27] = [
         Neutral(100, 10000, 0),
         SAME,
         &[
-            ("k-most", FLAT, &[218874, 180816, 218912, 181404, 199999]),
-            ("k-next", FLAT, &[218888, 180935, 218898, 181282, 200000]),
+            (
+                "k-most",
+                &[
+                    (200000, 218874),
+                    (200000, 180816),
+                    (200000, 218912),
+                    (200000, 181404),
+                    (200000, 199999),
+                ],
+            ),
+            (
+                "k-next",
+                &[
+                    (200000, 218888),
+                    (200000, 180935),
+                    (200000, 218898),
+                    (200000, 181282),
+                    (200000, 200000),
+                ],
+            ),
         ],
     ),
     // Each T, with L 2665, 806, 13601 and 1516. The least Q that passes has (N-1)L²·10⁶ = T²Q; with the same ΣD, the next lower one that D's give is
@@ -712,8 +956,26 @@ const ANNUAL_TESTS: [(usize, Setup, Line, &[Case]); 27] = [
         Neutral(100, 700, 0),
         SAME,
         &[
-            ("T-least", FLAT, &[201791, 200595, 201787, 200759, 201233]),
-            ("T-below", FLAT, &[201793, 200680, 201791, 200668, 201233]),
+            (
+                "T-least",
+                &[
+                    (200000, 201791),
+                    (200000, 200595),
+                    (200000, 201787),
+                    (200000, 200759),
+                    (200000, 201233),
+                ],
+            ),
+            (
+                "T-below",
+                &[
+                    (200000, 201793),
+                    (200000, 200680),
+                    (200000, 201791),
+                    (200000, 200668),
+                    (200000, 201233),
+                ],
+            ),
         ],
     ),
     (
@@ -721,8 +983,26 @@ const ANNUAL_TESTS: [(usize, Setup, Line, &[Case]); 27] = [
         Neutral(100, 700, 0),
         SAME,
         &[
-            ("T-least", FLAT, &[201017, 200547, 200964, 200810, 200834]),
-            ("T-below", FLAT, &[201015, 200659, 201019, 200645, 200834]),
+            (
+                "T-least",
+                &[
+                    (200000, 201017),
+                    (200000, 200547),
+                    (200000, 200964),
+                    (200000, 200810),
+                    (200000, 200834),
+                ],
+            ),
+            (
+                "T-below",
+                &[
+                    (200000, 201015),
+                    (200000, 200659),
+                    (200000, 201019),
+                    (200000, 200645),
+                    (200000, 200834),
+                ],
+            ),
         ],
     ),
     (
@@ -730,8 +1010,26 @@ const ANNUAL_TESTS: [(usize, Setup, Line, &[Case]); 27] = [
         Neutral(100, 700, 0),
         SAME,
         &[
-            ("T-least", FLAT, &[205947, 199179, 205811, 199635, 202643]),
-            ("T-below", FLAT, &[205893, 199183, 205866, 199630, 202643]),
+            (
+                "T-least",
+                &[
+                    (200000, 205947),
+                    (200000, 199179),
+                    (200000, 205811),
+                    (200000, 199635),
+                    (200000, 202643),
+                ],
+            ),
+            (
+                "T-below",
+                &[
+                    (200000, 205893),
+                    (200000, 199183),
+                    (200000, 205866),
+                    (200000, 199630),
+                    (200000, 202643),
+                ],
+            ),
         ],
     ),
     (
@@ -739,8 +1037,26 @@ const ANNUAL_TESTS: [(usize, Setup, Line, &[Case]); 27] = [
         Neutral(100, 700, 0),
         SAME,
         &[
-            ("T-least", FLAT, &[201262, 200485, 201265, 200548, 200889]),
-            ("T-below", FLAT, &[201264, 200280, 201108, 200912, 200888]),
+            (
+                "T-least",
+                &[
+                    (200000, 201262),
+                    (200000, 200485),
+                    (200000, 201265),
+                    (200000, 200548),
+                    (200000, 200889),
+                ],
+            ),
+            (
+                "T-below",
+                &[
+                    (200000, 201264),
+                    (200000, 200280),
+                    (200000, 201108),
+                    (200000, 200912),
+                    (200000, 200888),
+                ],
+            ),
         ],
     ),
     (
@@ -748,22 +1064,40 @@ const ANNUAL_TESTS: [(usize, Setup, Line, &[Case]); 27] = [
         Neutral(100, 700, 0),
         SAME,
         &[
-            ("T-turned", FLAT, &[198209, 199405, 198213, 199241, 198767]),
-            ("T-turned", FLAT, &[198207, 199320, 198209, 199332, 198767]),
+            (
+                "T-turned",
+                &[
+                    (200000, 198209),
+                    (200000, 199405),
+                    (200000, 198213),
+                    (200000, 199241),
+                    (200000, 198767),
+                ],
+            ),
+            (
+                "T-turned",
+                &[
+                    (200000, 198207),
+                    (200000, 199320),
+                    (200000, 198209),
+                    (200000, 199332),
+                    (200000, 198767),
+                ],
+            ),
         ],
     ),
     // A y' at 10,000,000 and one beyond, a c likewise, and a c at -10,000,000 and one beyond. 20 comes ahead of 24.
-    (5, Hot(100), SAME, &[("y-at", &[0], &[375000, 0])]),
-    (5, Hot(92), SAME, &[("y-beyond", &[0], &[373506, 0])]),
-    (5, Hot(100), SAME, &[("c-at", &[375000, 0], &[0])]),
-    (5, Hot(92), SAME, &[("c-beyond", &[373506, 0], &[0])]),
-    (5, Hot(100), AT_LEAST, &[("c-at", &[0], &[0])]),
-    (5, Hot(92), BELOW_LEAST, &[("c-beyond", &[0], &[0])]),
-    (4, Hot(92), SAME, &[("order-20", &[373506, 0], &[0])]),
+    (5, Hot(100), SAME, &[("y-at", &[(0, 375000), (0, 0)])]),
+    (5, Hot(92), SAME, &[("y-beyond", &[(0, 373506), (0, 0)])]),
+    (5, Hot(100), SAME, &[("c-at", &[(375000, 0), (0, 0)])]),
+    (5, Hot(92), SAME, &[("c-beyond", &[(373506, 0), (0, 0)])]),
+    (5, Hot(100), AT_LEAST, &[("c-at", &[(0, 0)])]),
+    (5, Hot(92), BELOW_LEAST, &[("c-beyond", &[(0, 0)])]),
+    (4, Hot(92), SAME, &[("order-20", &[(373506, 0), (0, 0)])]),
     // One past some ends.
-    (5, Hot(92), NO_LINE, &[("B-below", &[1], &[1])]),
-    (5, Neutral(100, 0, 0), SAME, &[("sigma-below", &[1], &[1])]),
-    (5, Hot(92), SAME, &[("x-below", &[-1], &[1])]),
+    (5, Hot(92), NO_LINE, &[("B-below", &[(1, 1)])]),
+    (5, Neutral(100, 0, 0), SAME, &[("sigma-below", &[(1, 1)])]),
+    (5, Hot(92), SAME, &[("x-below", &[(-1, 1)])]),
 ];
 
 // ---- a line for each
@@ -815,32 +1149,39 @@ impl<R: Print + AllocGlobal> Runner<'_, R> {
         )
     }
 
-    // A line for each case of n pairs.
-    fn fits(&self, n: usize, s: Setup, cases: &[Case]) -> io::Result<()> {
-        for (name, xs, ys) in cases {
-            let pairs = s.pairs(self.rt.alloc(), n, xs, ys)?;
-            let fit = try_fit(pairs.as_slice(), self.basis(s), s.z());
-            self.fit_line(name, n, s, fit)?;
-        }
-        Ok(())
-    }
-
-    // The same of annual tests, with the function l in force.
-    fn annual_tests(&self, n: usize, s: Setup, l: Line, cases: &[Case]) -> io::Result<()> {
+    // The line of an annual test of n pairs, with the function l in force.
+    fn annual_line(
+        &self,
+        name: &str,
+        n: usize,
+        s: Setup,
+        l: Line,
+        test: Option<Annual>,
+    ) -> io::Result<()> {
         let q = s.requirements();
-        for (name, xs, ys) in cases {
-            let pairs = s.pairs(self.rt.alloc(), n, xs, ys)?;
-            let test = try_annual(pairs.as_slice(), self.basis(s), l);
-            print!(self.rt;
-                "{name} n {n} sigma {} reference {}",
-                q.uncertainty, q.oxygen
-            )?;
-            println!(self.rt; " B {} A {} {}", l.slope, l.intercept, Or(test, "outside"))?;
+        print!(self.rt; "{name} n {n} sigma {}", q.uncertainty)?;
+        print!(self.rt; " reference {} B {}", q.oxygen, l.slope)?;
+        println!(self.rt; " A {} {}", l.intercept, Or(test, "outside"))
+    }
+
+    // A line for each case of n pairs.
+    fn lines<F: Fn(&str, &[Pair]) -> io::Result<()>>(
+        &self,
+        n: usize,
+        s: Setup,
+        cases: &[Case],
+        line: F,
+    ) -> io::Result<()>
+        requires { F.IsAlwaysCallable line }
+    {
+        for (name, figures) in cases {
+            let pairs = s.pairs(self.rt.alloc(), n, figures)?;
+            line(name, pairs.as_slice())?;
         }
         Ok(())
     }
 
-    pub fn calibration(&self) -> io::Result<()> {
+    fn standard_cases(&self) -> io::Result<()> {
         for [v, temperature, pressure, water, oxygen, reference] in STANDARD_CASES {
             let k = Conditions {
                 temperature,
@@ -850,15 +1191,40 @@ impl<R: Print + AllocGlobal> Runner<'_, R> {
             };
             self.standard(v, k, reference)?;
         }
+        Ok(())
+    }
+
+    fn value_cases(&self) -> io::Result<()> {
         for (x, slope, intercept, k, reference) in VALUE_CASES {
             self.value(x, Line { slope, intercept }, k, reference)?;
         }
+        Ok(())
+    }
+
+    fn fits(&self) -> io::Result<()> {
         for (n, s, cases) in FITS {
-            self.fits(n, s, cases)?;
-        }
-        for (n, s, l, cases) in ANNUAL_TESTS {
-            self.annual_tests(n, s, l, cases)?;
+            self.lines(n, s, cases, |name, pairs| {
+                let fit = try_fit(pairs, self.basis(s), s.z());
+                self.fit_line(name, n, s, fit)
+            })?;
         }
         Ok(())
+    }
+
+    fn annual_tests(&self) -> io::Result<()> {
+        for (n, s, l, cases) in ANNUAL_TESTS {
+            self.lines(n, s, cases, |name, pairs| {
+                let test = try_annual(pairs, self.basis(s), l);
+                self.annual_line(name, n, s, l, test)
+            })?;
+        }
+        Ok(())
+    }
+
+    pub fn calibration(&self) -> io::Result<()> {
+        self.standard_cases()?;
+        self.value_cases()?;
+        self.fits()?;
+        self.annual_tests()
     }
 }

@@ -1,6 +1,6 @@
 // Fits of lent lists of pairs in an edition, a line for each: Table E.2, other lengths, and lists that are stopped. The numbers of the file `stdout`
 // were worked out as in `calibration_cases`.
-use crate::calibration_cases::{Fit, SIGNALS, Setup, VALUES};
+use crate::calibration_cases::{Fit, Setup, TABLE_E2};
 use crate::runner::Runner;
 use Setup::Neutral;
 use calibration::Pair;
@@ -38,14 +38,14 @@ impl<R: Print + AllocGlobal> Runner<'_, R> {
     }
 
     fn lent_table(&self, name: &str, n: usize, s: Setup) -> io::Result<()> {
-        let pairs = s.pairs(self.rt.alloc(), n, &SIGNALS, &VALUES)?;
+        let pairs = s.pairs(self.rt.alloc(), n, &TABLE_E2)?;
         self.lent_list(name, pairs.as_slice(), s)
     }
 
     // A field is outside in the last pair alone.
     fn last_outside(&self) -> io::Result<()> {
         let s = Neutral(100, 6647, 0);
-        let mut pairs = s.pairs(self.rt.alloc(), 1000, &SIGNALS, &VALUES)?;
+        let mut pairs = s.pairs(self.rt.alloc(), 1000, &TABLE_E2)?;
         if let Some(last) = pairs.last_mut() {
             last.signal = 400001;
         }
@@ -55,7 +55,7 @@ impl<R: Print + AllocGlobal> Runner<'_, R> {
     pub fn lent(&self) -> io::Result<()> {
         self.lent_table("lent-table-E.2", 15, Neutral(66470, 6647, 0))?;
         let s = Neutral(10000, 500, 0);
-        let halves = s.pairs(self.rt.alloc(), 15, &[40000], &[1])?;
+        let halves = s.pairs(self.rt.alloc(), 15, &[(40000, 1)])?;
         self.lent_list("lent-half-B", halves.as_slice(), s)?;
         for (name, n, s) in LENT {
             self.lent_table(name, n, s)?;

@@ -4,8 +4,10 @@ use crate::runner::Runner;
 use std::fmt::Display;
 use std::io;
 
+// These three tables are statics: a constant is written out where it is used, and the check takes longer over such numbers.
+
 // Halves, the paper's three first; thirds; whole quotients. Then halves next to an even number and to an odd one.
-const SMALL: [(i64, i64); 18] = [
+static SMALL: [(i64, i64); 18] = [
     (1, 2),
     (-1, 2),
     (-3, 2),
@@ -27,7 +29,7 @@ const SMALL: [(i64, i64); 18] = [
 ];
 
 // Up to 2^62 over 2^61. (2^62 - 1)/2 is a half.
-const LARGE: [(i64, i64); 13] = [
+static LARGE: [(i64, i64); 13] = [
     (1 << 62, 1),
     (-(1 << 62), 1),
     ((1 << 62) - 1, 2),
@@ -44,7 +46,7 @@ const LARGE: [(i64, i64); 13] = [
 ];
 
 // Numerators and divisors up to 2^64 - 1.
-const LARGE_UNSIGNED: [(u64, u64); 9] = [
+static LARGE_UNSIGNED: [(u64, u64); 9] = [
     (1, 2),
     (u64::MAX, 1),
     (u64::MAX, 2),
@@ -64,6 +66,7 @@ fn try_near(edition: u8, n: i64, d: i64) -> Option<i64> {
     Some(charts::near(edition, n, d))
 }
 
+// The same over every u64, but for d 0. Two ranges and two calls: one function for both would be no shorter.
 fn try_near_unsigned(edition: u8, n: u64, d: u64) -> Option<u64> {
     if d == 0 {
         return None;
@@ -99,16 +102,20 @@ impl<R: Print> Runner<'_, R> {
         Ok(())
     }
 
+    fn each(&self, quotients: &[(i64, i64)]) -> io::Result<()> {
+        for (n, d) in quotients {
+            self.near(*n, *d)?;
+        }
+        Ok(())
+    }
+
     pub fn rounding(&self) -> io::Result<()> {
-        for (n, d) in SMALL {
-            self.near(n, d)?;
-        }
+        self.each(&SMALL)?;
         self.mirrored()?;
-        for (n, d) in LARGE {
-            self.near(n, d)?;
-        }
-        for (n, d) in LARGE_UNSIGNED {
-            self.quotient("unsigned", n, d, try_near_unsigned(self.edition, n, d))?;
+        self.each(&LARGE)?;
+        for (n, d) in &LARGE_UNSIGNED {
+            let near = try_near_unsigned(self.edition, *n, *d);
+            self.quotient("unsigned", *n, *d, near)?;
         }
         Ok(())
     }

@@ -27,66 +27,80 @@ pub enum Command {
     End,
 }
 
-// The command of a word and its numbers, where there is one that takes as many, each as large.
-pub fn command_of(word: &[u8], numbers: &[u64]) -> Option<Command> {
-    let command = match (word, numbers) {
-        (b"new", [analyser]) => Command::New(u32::try_from(*analyser).ok()?),
+// The commands with no numbers.
+fn command_of_none(word: &[u8]) -> Option<Command> {
+    match word {
+        b"apply" => Some(Command::Apply { times: 1, apart: 0 }),
+        b"keep" => Some(Command::Keep),
+        b"back" => Some(Command::Back),
+        b"list" => Some(Command::List),
+        b"clear" => Some(Command::Clear),
+        b"show" => Some(Command::Show),
+        b"charts" => Some(Command::Charts),
+        b"report" => Some(Command::Report),
+        b"end" => Some(Command::End),
+        _ => None,
+    }
+}
+
+fn command_of_one(word: &[u8], n: u64) -> Option<Command> {
+    match word {
+        b"new" => Some(Command::New(u32::try_from(n).ok()?)),
+        b"apply" => Some(Command::Apply { times: n, apart: 0 }),
+        b"form" => Some(Command::Form { size: n, less: 0 }),
+        b"take" => Some(Command::Take(n)),
+        b"seal" => Some(Command::Seal(n)),
+        b"expect" => Some(Command::Expect(u32::try_from(n).ok()?)),
+        b"edition" => Some(Command::Edition(u8::try_from(n).ok()?)),
+        b"open" => Some(Command::Open(u8::try_from(n).ok()?)),
+        _ => None,
+    }
+}
+
+fn command_of_two(word: &[u8], n: u64, m: u64) -> Option<Command> {
+    match word {
+        b"byte" if n < 40 => Some(Command::Byte(n as usize, u8::try_from(m).ok()?)),
+        b"apply" => Some(Command::Apply { times: n, apart: m }),
+        b"form" => Some(Command::Form { size: n, less: m }),
+        b"poke" => Some(Command::Poke(n, m)),
+        b"bytes" => Some(Command::Bytes { from: n, to: m }),
+        _ => None,
+    }
+}
+
+// A record or a closing.
+fn command_of_more(word: &[u8], numbers: &[u64]) -> Option<Command> {
+    match (word, numbers) {
         (b"record", [kind, mark, minute, fields @ ..]) => {
-            Command::Record(script_record::record_of(*kind, *mark, *minute, fields)?)
+            let record = script_record::record_of(*kind, *mark, *minute, fields)?;
+            Some(Command::Record(record))
         }
-        (b"byte", [at @ 0..40, byte]) => Command::Byte(*at as usize, u8::try_from(*byte).ok()?),
-        (b"apply", []) => Command::Apply { times: 1, apart: 0 },
-        (b"apply", [times]) => Command::Apply {
-            times: *times,
-            apart: 0,
-        },
-        (b"apply", [times, apart]) => Command::Apply {
-            times: *times,
-            apart: *apart,
-        },
-        (b"keep", []) => Command::Keep,
-        (b"back", []) => Command::Back,
-        (b"list", []) => Command::List,
-        (b"clear", []) => Command::Clear,
-        (b"form", [size]) => Command::Form {
-            size: *size,
-            less: 0,
-        },
-        (b"form", [size, less]) => Command::Form {
-            size: *size,
-            less: *less,
-        },
         (b"make", [kind, minute, z, size]) => {
-            Command::Make(closing_of(*kind, *minute, *z)?, *size, 0)
+            Some(Command::Make(closing_of(*kind, *minute, *z)?, *size, 0))
         }
         (b"make", [kind, minute, z, size, less]) => {
-            Command::Make(closing_of(*kind, *minute, *z)?, *size, *less)
+            Some(Command::Make(closing_of(*kind, *minute, *z)?, *size, *less))
         }
-        (b"take", [size]) => Command::Take(*size),
-        (b"poke", [at, byte]) => Command::Poke(*at, *byte),
-        (b"seal", [block]) => Command::Seal(*block),
-        (b"expect", [block]) => Command::Expect(u32::try_from(*block).ok()?),
-        (b"edition", [edition]) => Command::Edition(u8::try_from(*edition).ok()?),
-        (b"open", [edition]) => Command::Open(u8::try_from(*edition).ok()?),
-        (b"bytes", [from, to]) => Command::Bytes {
-            from: *from,
-            to: *to,
-        },
-        (b"show", []) => Command::Show,
-        (b"charts", []) => Command::Charts,
-        (b"report", []) => Command::Report,
-        (b"end", []) => Command::End,
-        _ => return None,
-    };
-    Some(command)
+        _ => None,
+    }
+}
+
+// The command of a word and its numbers, where there is one that takes as many, each as large. A function for each count of numbers: the
+// check takes longer over one match of all the commands.
+pub fn command_of(word: &[u8], numbers: &[u64]) -> Option<Command> {
+    match numbers {
+        [] => command_of_none(word),
+        [n] => command_of_one(word, *n),
+        [n, m] => command_of_two(word, *n, *m),
+        _ => command_of_more(word, numbers),
+    }
 }
 
 // Z is the signed number of 32 bits that has the lowest four bytes.
 fn closing_of(kind: u64, minute: u64, z: u64) -> Option<Closing> {
-    let [a, b, c, d, ..] = z.to_le_bytes();
     Some(Closing {
         kind: u8::try_from(kind).ok()?,
         minute: u32::try_from(minute).ok()?,
-        z: i32::from_le_bytes([a, b, c, d]),
+        z: ((z & 0xffffffff) as u32).cast_signed(),
     })
 }

@@ -10,25 +10,27 @@ use refusals::Refusal;
 use std::alloc::Global;
 use std::io;
 
-// The most bytes that are listed, that a run has, and that a target has.
+// The most bytes that are listed, those of a block, and those of a target.
 const LIST: usize = 520;
 
-const RUN: usize = 2048;
+const BLOCK: usize = 512;
 
 const TARGET: usize = 600;
 
 // What a target holds before a call.
 const FILL: u8 = 0xa5;
 
-// What a script works on: a state, one that was kept, the record that is prepared, the listed records, the run of blocks, what the last call
-// left in its target, and the edition that is told.
+// What a script works on: a state, one that was kept, the record that is prepared, the listed records, the run and how many blocks of it were
+// formed, what the last call left in its target, and the edition that is told.
 #[derive(Drop)]
 pub struct Desk {
     state: State,
     kept: State,
     record: [u8; 40],
     list: Vec<u8>,
-    run: Vec<u8>,
+    // An array with a count beside it: bytes past the blocks that were formed are poked, sealed and taken too.
+    run: [[u8; BLOCK]; 4],
+    formed: usize,
     target: [u8; TARGET],
     edition: u8,
 }
@@ -72,7 +74,8 @@ impl Desk {
             kept: state,
             record: [0; 40],
             list: Vec::new(alloc),
-            run: Vec::new(alloc),
+            run: [[0; BLOCK]; 4],
+            formed: 0,
             target: [FILL; TARGET],
             edition: 1,
         }
@@ -103,7 +106,7 @@ impl Desk {
             Command::List => self.list(rt)?,
             Command::Clear => {
                 self.list.clear();
-                self.run.clear();
+                self.formed = 0;
             }
             Command::Form { size, less } => self.form(rt, size, less)?,
             Command::Make(closing, size, less) => self.make(rt, closing, size, less)?,
@@ -175,10 +178,11 @@ impl Desk {
             return Ok(());
         };
         self.state = after;
-        if RUN < self.run.len() + 512 {
+        let Some(block) = self.run.get_mut(self.formed) else {
             return no_room(rt);
-        }
-        self.run.extend_from_slice(&self.target[..512])?;
+        };
+        block.copy_from_slice(&self.target[..BLOCK]);
+        self.formed += 1;
         self.list.clear();
         Ok(())
     }
@@ -202,14 +206,12 @@ impl Desk {
         Ok(())
     }
 
-    // The first `size` bytes of the run, and zeros past its end.
+    // The first `size` bytes of the run.
     fn take(&mut self, rt: &impl Print, size: u64) -> io::Result<()> {
-        if size > RUN as u64 {
+        let Some(run) = self.run.as_flattened().get(..size as usize) else {
             return no_room(rt);
-        }
-        let mut run = self.run.clone()?;
-        run.resize(size as usize, 0)?;
-        let r = file::replay(self.state, run.as_slice());
+        };
+        let r = file::replay(self.state, run);
         self.state = r.state;
         let (row, place) = row_and_place(r.ended.err());
         print!(rt;
@@ -223,7 +225,7 @@ impl Desk {
         let Ok(byte) = u8::try_from(byte) else {
             return no_room(rt);
         };
-        let Some(place) = self.run.get_mut(at as usize) else {
+        let Some(place) = self.run.as_flattened_mut().get_mut(at as usize) else {
             return no_room(rt);
         };
         *place = byte;
@@ -232,8 +234,7 @@ impl Desk {
 
     // A block of the run gets its check.
     fn seal(&mut self, rt: &impl Print, block: u64) -> io::Result<()> {
-        let (blocks, _) = self.run.as_mut_slice().as_chunks_mut::<512>();
-        let Some(block) = blocks.get_mut(block as usize) else {
+        let Some(block) = self.run.get_mut(block as usize) else {
             return no_room(rt);
         };
         let check = file::check(&block[..510]);
@@ -275,6 +276,7 @@ impl Desk {
     // The six alarms and usable.
     fn report(&self, rt: &impl Print) -> io::Result<()> {
         let r = file::reporting::report(self.state);
+        // By hand: a bool prints true and false.
         let usable = if r.usable { "yes" } else { "no" };
         print!(rt;
             " alarms {}{} usable {usable}",

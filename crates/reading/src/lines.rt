@@ -24,6 +24,7 @@ pub enum Line {
     Report(Report),
 }
 
+// By hand: a bool prints true and false.
 fn yes_or_no(answer: bool) -> &'static str
     ensures { result.now ≡ yes_or_no answer }
 {
