@@ -156,6 +156,7 @@ pub fn requirements_ranged(q: Requirements) -> bool
         & between(0, 1800, i64::from(q.oxygen))
 }
 
+// Z is a number of any size in public calls, and a clause asks its range where it is needed: a type for it would ask that of whoever calls.
 pub fn z_ranged(z: i32) -> bool
     ensures { result ≡ z_ranged_of z }
 {
@@ -168,7 +169,8 @@ pub fn line_ranged(l: Line) -> bool
     between(1, 1000000, i64::from(l.slope)) & between(-400000000000, 400000000000, l.intercept)
 }
 
-// ---- standard conditions and calibrated values
+// ---- standard conditions and calibrated values. An edition is a byte here and below: any may be told, and every one but 2 rounds by the rule of edition 1.
+// Edition and reference oxygen stay two: a `Basis` would ask E and σ too, which play no part.
 
 // One factor of formula 20, rounded: near(v·n/d). n and d stay two numbers, and a clause asks the sign of d: a fraction would be made only to be taken apart here.
 fn times(edition: u8, v: i64, n: i64, d: i64) -> i64

@@ -52,7 +52,7 @@ fn readings(c: Chart) -> Or<'static, u32> {
     Or(c.started.then_some(c.readings), "-")
 }
 
-// The number of the row that refused a call, 0 for none, and the place of the record at fault, 255 for none.
+// The number of the row that refused a call, 0 for none, and the place of the record at fault, 255 for none, as the script's lines have them.
 fn row_and_place(refused: Option<Refused>) -> (u32, u8) {
     match refused {
         Some(r) => (r.row.number(), r.place.unwrap_or(255)),
@@ -90,7 +90,8 @@ impl Desk {
         println!(rt; ": {row}")
     }
 
-    // One arm for each command; what it does is a method where it takes more than a line.
+    // One match, with an arm for each command, and no table of closures: each command has numbers of its own, and the arms lend the desk in different ways.
+    // What takes more than a line is a method.
     pub fn obey(&mut self, rt: &impl Print, command: Command) -> io::Result<()> {
         match command {
             Command::New(analyser) => self.state = records::apply::initial(analyser),

@@ -28,7 +28,7 @@ pub fn divide(n: i64, d: i64) -> Division
     }
 }
 
-// Whether there is such an edition. It stays a byte: a caller may tell any, and each has its answer.
+// Whether there is such an edition. It stays a byte, here and below: a caller may tell any, and each has its answer.
 #[tactic(auto, using(std::proofs::lemmas::Bool::Decides::nat_tests), unfolding(crate::specs::Rounding::edition_known))]
 pub fn edition_known(edition: u8) -> bool
     ensures { result ≡ edition_known edition }

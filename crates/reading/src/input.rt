@@ -11,7 +11,8 @@ pub struct Filled {
     pub failure: Option<Error>,
 }
 
-// Fills the buffer. It comes back less than full only where the input ends or a read fails: a pipe may give less than was asked for.
+// Fills the buffer. It comes back less than full only where the input ends or a read fails: a pipe may give less than was asked for. `count` is what the
+// reads gave, and no index: no iterator steps by it.
 pub fn fill<R: Read>(input: &mut R, buffer: &mut [u8]) -> Filled
     ensures in_bounds { result.count ≤ length buffer.new }
     ensures bytes { Consumes (R.remaining input.old) (R.remaining input.new) (take result.count buffer.new) }

@@ -1,4 +1,5 @@
-// What an accepted record makes of the state. State and record, and state and minute, go side by side: a type for the two would be made at each call.
+// What an accepted record makes of the state. State and record stay two, and so do state and minute: what reads a record asks no state, and a struct of both would
+// be taken apart there.
 ghost use Rattle.std.specs.Prelude.{◌≡◌, ◌≢◌, true, false, ◌+◌, ◌<◌, ◌≤◌, if◌then◌else◌};
 ghost use Rattle.charts.specs.Soundness.{Sound as Charts-as-Sound};
 ghost use Rattle.records.specs.Record.{mark, minute, reading_ranged, value_ranged};
@@ -201,7 +202,7 @@ fn count_value(st: &mut State, r: &[u8; 40])
 }
 
 // The chart of a mark is changed, 0 for zero and 1 for span. Its standard deviation goes with it. A closure, since a function that lends the chart of a mark makes
-// the reader slower by 9 percent on values and readings.
+// the reader slower by 9 percent on values and readings. The mark stays a byte, as the kind does in `apply`.
 #[inline(always)]
 fn change_chart<F: FnOnce(Chart, u16) -> Chart>(st: &mut State, mark: u8, change: F)
     requires { F.pre change (chart_at st.old mark) (deviation_at st.old.setting mark) }
@@ -279,7 +280,7 @@ pub fn apply(st: State, r: &[u8; 40]) -> State
 
 // ---- values and readings, which are most records, in the week of the record before: no week is judged, and the state is changed in place
 
-// Whether a record is of the kind given and of no later week than the last one.
+// Whether a record is of the kind given and of no later week than the last one. The kind stays a byte, as in `apply`.
 #[tactic(auto, unfolding(crate::specs::Record::kind, crate::specs::Record::minute, crate::specs::InPlace::in_week_of))]
 pub fn in_week(kind: u8, st: State, r: &[u8; 40]) -> bool
     ensures { result ≡ in_week_of kind st r.now }
@@ -287,6 +288,7 @@ pub fn in_week(kind: u8, st: State, r: &[u8; 40]) -> bool
     (r[0] == kind) & (bytes::read32(r, 4) / 10080 <= st.minute / 10080)
 }
 
+// `value` and `reading` stay two: a function that takes the change as a closure would need its pre and post in the clauses, and be longer than both.
 pub fn value(mut st: State, r: &[u8; 40]) -> State
     requires { InWeek 7 st r.now }
     ensures { result ≡ applied_to st r.now }

@@ -10,7 +10,7 @@ pub(crate) fn chunk<const N: usize>(bytes: &[u8], at: usize) -> [u8; N]
     *bytes[at..].first_chunk().unwrap()
 }
 
-// The number in two bytes. Two and four bytes have a function each, here and below: each is one call of the library, and a trait over the two widths is longer
+// The number in two bytes. Two and four bytes have a function each, here, below and in `fields`: each is one call of the library, and a trait over the two widths is longer
 // than both.
 pub fn read16(bytes: &[u8], at: usize) -> u16
     requires { at + 2 ≤ length bytes.now }
@@ -27,7 +27,7 @@ pub fn read32(bytes: &[u8], at: usize) -> u32
     u32::from_le_bytes(chunk(bytes, at))
 }
 
-// Whether the bytes from a place on, up to but not with another, are all zero.
+// Whether the bytes from a place on, up to but not with another, are all zero. Without an early end, which would make the reader slower.
 pub fn all_zero(bytes: &[u8], from: usize, to: usize) -> bool
     requires { (from ≤ to) × (to ≤ length bytes.now) }
     ensures { result ≡ all_zero (part from to bytes.now) }

@@ -1,5 +1,5 @@
-// Where a record is stopped: the rows that ask of the records before it. State and record go side by side, and so do state and minute: a type for the two, or for
-// a pair's record with its ranges, would be made at each call.
+// Where a record is stopped: the rows that ask of the records before it. State and record stay two, and so do state and minute, as in
+// `apply`; a type for a pair's record with its ranges would be made at each call.
 ghost use Rattle.std.specs.Prelude.{◌≡◌, true, false, not, map, ◌+◌, ◌-◌, ◌*◌, ◌<◌, ◌≤◌, length, if◌then◌else◌};
 ghost use Rattle.refusals.specs.Rows.{outcome_of};
 ghost use Rattle.records.specs.Record.{kind, length_of, minute, ranged_of, waiting_ranged};
@@ -87,6 +87,7 @@ fn times_fit(st: State, r: &[u8; 40]) -> bool
     if m < l {
         return false;
     }
+    // By a match: inside a closure what `follows` asks isn't proved.
     match st.pairs[..st.pending as usize].last() {
         None => true,
         Some(w) => follows(*w, m - l, l),

@@ -1,4 +1,4 @@
-// Closings: the figures that the pairs that wait give, and whether a stored closing has them.
+// Closings: the figures that the pairs that wait give, and whether a stored closing has them. State and record stay two, as in `apply`.
 ghost use Rattle.std.specs.Prelude.{◌≡◌, Ok, ◌≤◌, if◌then◌else◌, map, not, take};
 ghost use Rattle.refusals.specs.Rows.{outcome_of};
 ghost use Rattle.calibration.specs.Pairs.{ZRanged};

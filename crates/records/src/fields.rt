@@ -80,7 +80,7 @@ pub fn pair_of(r: &[u8; 40]) -> Pair
     }
 }
 
-// A pair's length in minutes.
+// A pair's length in minutes. Casts by `as`, here and above, take a number that is proved to fit; a TryFrom would answer an error that can't come.
 pub fn length_of(r: &[u8; 40]) -> u32
     requires { waiting_ranged r.now ≡ true }
     ensures { (result ≡ length_of r.now) × (result ≤ 1440) }

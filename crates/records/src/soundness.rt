@@ -16,10 +16,7 @@ fn setting_sound(s: Setting) -> bool
 fn begun_sound(begun: bool, s: Setting) -> bool
     ensures { result ≡ begun_sound_of begun s }
 {
-    if begun {
-        return setting_sound(s);
-    }
-    true
+    !begun || setting_sound(s)
 }
 
 #[tactic(auto, unfolding(crate::specs::Soundness::waiting_sound_of))]
@@ -39,10 +36,7 @@ fn pairs_sound(pairs: &[Waiting]) -> bool
 fn calibration_sound(k: Option<Function>) -> bool
     ensures { result ≡ calibration_sound_of k }
 {
-    match k {
-        None => true,
-        Some(f) => calibration::line_ranged(f.line()),
-    }
+    k.is_none_or(|f| calibration::line_ranged(f.line()))
 }
 
 // Counts that go record by record are held to `most`. What is tested here stands in the clauses of the functions that need it, and is no ghost field of the

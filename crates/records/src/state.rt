@@ -46,8 +46,9 @@ impl Function {
 
 // The standing: an analyser, the block number that it expects, a summary of the accepted records, and the edition of the block that is open,
 // or between blocks that of the last one taken or formed: 0 before the first. `calibration` is the function in force, and `demand` the minute of the first
-// call for a new one since it. Thirty places stand beside their count, and `begun` beside the minute and the setting, since the state is public and goes by
-// value in fixed memory, with no heap.
+// call for a new one since it. Thirty places stand beside their count, since the state goes by value in fixed
+// memory, with no heap. `begun` stands beside the minute and the setting, and no Option around them: the state is public, one that has not begun may hold any of
+// both, and row 12 and the report ask them all the same.
 #[derive(Clone, Copy)]
 pub struct State {
     pub analyser: u32,

@@ -1,4 +1,4 @@
-// One record: refused, or applied to the state.
+// One record: refused, or applied to the state. State and record stay two, as in `apply`.
 ghost use Rattle.std.specs.Prelude.{◌≡◌, true, false};
 ghost use Rattle.refusals.specs.Rows.{outcome_of};
 ghost use Rattle.records.specs.Record.{ranged_of};
