@@ -27,11 +27,23 @@ def closing(text, at):
     return len(text)
 
 
+def past_generics(text, at):
+    """The place past <..>, whose bounds may have brackets of their own, as FnOnce(u8) -> u8 has."""
+    if text[at] != '<':
+        return at
+    depth = 0
+    for i in range(at, len(text)):
+        depth += (text[i] == '<') - (text[i] == '>' and text[i - 1] != '-')
+        if depth == 0:
+            return i + 1
+    return len(text)
+
+
 class Function:
     def __init__(self, path, text, match):
         self.path, self.name = path, match.group(1)
         self.line = text.count('\n', 0, match.start()) + 1
-        open_args = text.index('(', match.end())
+        open_args = text.index('(', past_generics(text, match.end()))
         close_args = closing(text, open_args)
         self.args = [' '.join(a.split()) for a in re.split(r',(?![^<(\[]*[>)\]])', text[open_args + 1:close_args - 1]) if a.strip()]
         # Clauses follow the head, each with its own braces; the body is the last pair.
@@ -103,7 +115,7 @@ def main():
         for m in re.finditer(r'struct (\w+)[^{;(]*\{([^}]*)\}', text):
             if re.search(r'^\s*(pub )?refusal: u', m.group(2), re.M):
                 note('1 structs with the number of a refusal', f'{path}: {m.group(1)}')
-            for flag in re.findall(r'^\s*(?:pub )?(begun|started|open|ranged|wrong|minus|failed|known): bool', m.group(2), re.M):
+            for flag in re.findall(r'^\s*(?:pub )?(begun|started|open|more|ranged|wrong|minus|failed|known): bool', m.group(2), re.M):
                 note('1 flags with a value beside', f'{path}: {m.group(1)}.{flag}')
             array = re.search(r': \[[^;\]]*; [^\]]*\]', m.group(2))
             if array and re.search(r'^\s*(pub )?\w+: (u32|usize)', m.group(2), re.M):

@@ -132,6 +132,7 @@ fn try_fit(pairs: &[Pair], b: Basis, z: i32) -> Option<Fit> {
     Some(Fit(calibration::fit(pairs, b, z)))
 }
 
+// Like `try_fit`, and no shorter with it: two ranges and two calls.
 fn try_annual(pairs: &[Pair], b: Basis, l: Line) -> Option<Annual> {
     if !ranged(pairs, b.requirements) || !calibration::line_ranged(l) {
         return None;
@@ -1118,6 +1119,7 @@ impl<R: Print + AllocGlobal> Runner<'_, R> {
         }
     }
 
+    // Conditions and reference oxygen stay two, as in `calibration`.
     fn conditions(&self, k: Conditions, reference: i32) -> io::Result<()> {
         print!(self.rt; " t {} p {} h {}", k.temperature, k.pressure, k.water)?;
         print!(self.rt; " o {} reference {reference}", k.oxygen)
@@ -1137,7 +1139,7 @@ impl<R: Print + AllocGlobal> Runner<'_, R> {
         self.value_or_outside(try_value(self.edition, reference, l, k, x))
     }
 
-    // The line of a fit of n pairs.
+    // The line of a fit of n pairs. The count and the setup stay two: lent lists and tables give the same setup other counts.
     pub fn fit_line(&self, name: &str, n: usize, s: Setup, fit: Option<Fit>) -> io::Result<()> {
         let q = s.requirements();
         print!(self.rt; "{name} n {n} E {} sigma {}", q.limit, q.uncertainty)?;

@@ -9,7 +9,7 @@ use std::io::Read;
 // A script is shorter than this.
 const LIMIT: u64 = 262144;
 
-fn line(rt: &(impl Print + AllocGlobal), desk: &mut Desk, text: &[u8]) -> io::Result<()> {
+fn line<R: Print + AllocGlobal>(rt: &R, desk: &mut Desk<'_, R>, text: &[u8]) -> io::Result<()> {
     let (word, rest) = first_word(text);
     match word {
         [] | [b'#', ..] => return Ok(()),
@@ -17,7 +17,7 @@ fn line(rt: &(impl Print + AllocGlobal), desk: &mut Desk, text: &[u8]) -> io::Re
             rt.write_all(rest)?;
             return print!(rt; ":");
         }
-        b"try" => return desk.attempt(rt, rest),
+        b"try" => return desk.attempt(rest),
         b"check" => return script_desk::show_check(rt, rest),
         _ => {}
     }
@@ -25,7 +25,7 @@ fn line(rt: &(impl Print + AllocGlobal), desk: &mut Desk, text: &[u8]) -> io::Re
         return println!(rt; "unknown");
     };
     match command_of(word, numbers.as_slice()) {
-        Some(command) => desk.obey(rt, command),
+        Some(command) => desk.obey(command),
         None => println!(rt; "unknown"),
     }
 }
@@ -36,7 +36,7 @@ pub fn run(rt: &(impl Print + Input + AllocGlobal)) -> io::Result<()> {
     if script.len() as u64 == LIMIT {
         return println!(rt; "the script is too long");
     }
-    let mut desk = Desk::new(rt.alloc());
+    let mut desk = Desk::new(rt, rt.alloc());
     for text in script.split(|b| *b == b'\n') {
         line(rt, &mut desk, text)?;
     }

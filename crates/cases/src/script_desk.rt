@@ -20,10 +20,11 @@ const TARGET: usize = 600;
 // What a target holds before a call.
 const FILL: u8 = 0xa5;
 
-// What a script works on: a state, one that was kept, the record that is prepared, the listed records, the run and how many blocks of it were
+// What a script works on: what it prints by, a state, one that was kept, the record that is prepared, the listed records, the run and how many blocks of it were
 // formed, what the last call left in its target, and the edition that is told.
 #[derive(Drop)]
-pub struct Desk {
+pub struct Desk<'a, R> {
+    rt: &'a R,
     state: State,
     kept: State,
     record: [u8; 40],
@@ -33,10 +34,6 @@ pub struct Desk {
     formed: usize,
     target: [u8; TARGET],
     edition: u8,
-}
-
-fn no_room(rt: &impl Print) -> io::Result<()> {
-    print!(rt; " no room")
 }
 
 // A state that calls left is sound.
@@ -66,10 +63,11 @@ pub fn show_check(rt: &impl Print, text: &[u8]) -> io::Result<()> {
     println!(rt; ": check {:04x}", file::check(text))
 }
 
-impl Desk {
-    pub fn new(alloc: Global) -> Desk {
+impl<'a, R: Print> Desk<'a, R> {
+    pub fn new(rt: &'a R, alloc: Global) -> Desk<'a, R> {
         let state = records::apply::initial(0);
         Desk {
+            rt,
             state,
             kept: state,
             record: [0; 40],
@@ -81,18 +79,22 @@ impl Desk {
         }
     }
 
+    fn no_room(&self) -> io::Result<()> {
+        print!(self.rt; " no room")
+    }
+
     // What the prepared record would meet. The state stays as it is.
-    pub fn attempt(&self, rt: &impl Print, title: &[u8]) -> io::Result<()> {
+    pub fn attempt(&self, title: &[u8]) -> io::Result<()> {
         let row = step(self.state, &self.record)
             .err()
             .map_or(0, Refusal::number);
-        rt.write_all(title)?;
-        println!(rt; ": {row}")
+        self.rt.write_all(title)?;
+        println!(self.rt; ": {row}")
     }
 
     // One match, with an arm for each command, and no table of closures: each command has numbers of its own, and the arms lend the desk in different ways.
     // What takes more than a line is a method.
-    pub fn obey(&mut self, rt: &impl Print, command: Command) -> io::Result<()> {
+    pub fn obey(&mut self, command: Command) -> io::Result<()> {
         match command {
             Command::New(analyser) => self.state = records::apply::initial(analyser),
             Command::Record(record) => self.record = record,
@@ -101,37 +103,37 @@ impl Desk {
                     *place = byte;
                 }
             }
-            Command::Apply { times, apart } => self.apply(rt, times, apart)?,
+            Command::Apply { times, apart } => self.apply(times, apart)?,
             Command::Keep => self.kept = self.state,
             Command::Back => self.state = self.kept,
-            Command::List => self.list(rt)?,
+            Command::List => self.list()?,
             Command::Clear => {
                 self.list.clear();
                 self.formed = 0;
             }
-            Command::Form { size, less } => self.form(rt, size, less)?,
-            Command::Make(closing, size, less) => self.make(rt, closing, size, less)?,
-            Command::Take(size) => self.take(rt, size)?,
-            Command::Poke(at, byte) => self.poke(rt, at, byte)?,
-            Command::Seal(block) => self.seal(rt, block)?,
+            Command::Form { size, less } => self.form(size, less)?,
+            Command::Make(closing, size, less) => self.make(closing, size, less)?,
+            Command::Take(size) => self.take(size)?,
+            Command::Poke(at, byte) => self.poke(at, byte)?,
+            Command::Seal(block) => self.seal(block)?,
             Command::Expect(block) => self.state.next = block,
             Command::Edition(edition) => self.edition = edition,
             Command::Open(edition) => self.state.edition = edition,
-            Command::Bytes { from, to } => self.bytes(rt, from, to)?,
-            Command::Show => self.show(rt)?,
-            Command::Charts => self.charts(rt)?,
-            Command::Report => self.report(rt)?,
-            Command::End => println!(rt)?,
+            Command::Bytes { from, to } => self.bytes(from, to)?,
+            Command::Show => self.show()?,
+            Command::Charts => self.charts()?,
+            Command::Report => self.report()?,
+            Command::End => println!(self.rt)?,
         }
         Ok(())
     }
 
     // The record so many times, each so many minutes after the one before, up to the first that is refused.
-    fn apply(&mut self, rt: &impl Print, times: u64, apart: u64) -> io::Result<()> {
+    fn apply(&mut self, times: u64, apart: u64) -> io::Result<()> {
         for _ in 0..times {
             match step(self.state, &self.record) {
                 Ok(after) => self.state = after,
-                Err(row) => return print!(rt; " refused {}", row.number()),
+                Err(row) => return print!(self.rt; " refused {}", row.number()),
             }
             script_record::move_on(&mut self.record, apart);
         }
@@ -139,20 +141,20 @@ impl Desk {
     }
 
     // The prepared record is listed.
-    fn list(&mut self, rt: &impl Print) -> io::Result<()> {
+    fn list(&mut self) -> io::Result<()> {
         if LIST < self.list.len() + 40 {
-            return no_room(rt);
+            return self.no_room();
         }
         self.list.extend_from_slice(&self.record)?;
         Ok(())
     }
 
     // What a call answered, and whether the target has all its old bytes.
-    fn tell(&self, rt: &impl Print, refused: Option<Refused>) -> io::Result<()> {
+    fn tell(&self, refused: Option<Refused>) -> io::Result<()> {
         let (row, place) = row_and_place(refused);
         let untouched = self.target.iter().all(|b| *b == FILL);
         let target = if untouched { "kept" } else { "written" };
-        print!(rt; " refused {row} place {place} {target}")
+        print!(self.rt; " refused {row} place {place} {target}")
     }
 
     // The listed bytes, but for their last `less`.
@@ -164,23 +166,23 @@ impl Desk {
 
     // A block of the listed records, but for their last `less` bytes, in a target of `size` bytes. A block that was formed goes behind the run, and the
     // list is empty.
-    fn form(&mut self, rt: &impl Print, size: u64, less: u64) -> io::Result<()> {
+    fn form(&mut self, size: u64, less: u64) -> io::Result<()> {
         let mut target = [FILL; TARGET];
         let Some(bytes) = self.listed(less) else {
-            return no_room(rt);
+            return self.no_room();
         };
         let Some(asked) = target.get_mut(..size as usize) else {
-            return no_room(rt);
+            return self.no_room();
         };
         let answer = file::append(self.state, self.edition, bytes, asked);
         self.target = target;
-        self.tell(rt, answer.err())?;
+        self.tell(answer.err())?;
         let Ok(after) = answer else {
             return Ok(());
         };
         self.state = after;
         let Some(block) = self.run.get_mut(self.formed) else {
-            return no_room(rt);
+            return self.no_room();
         };
         block.copy_from_slice(&self.target[..BLOCK]);
         self.formed += 1;
@@ -188,19 +190,19 @@ impl Desk {
         Ok(())
     }
 
-    // Like `form`, and no shorter with what they share in a function that takes the call.
     // A closing after the listed records, but for their last `less` bytes, in a target of `size` bytes. One that was made is the prepared record.
-    fn make(&mut self, rt: &impl Print, closing: Closing, size: u64, less: u64) -> io::Result<()> {
+    // Like `form`, and no shorter with what they share in a function that takes the call.
+    fn make(&mut self, closing: Closing, size: u64, less: u64) -> io::Result<()> {
         let mut target = [FILL; TARGET];
         let Some(bytes) = self.listed(less) else {
-            return no_room(rt);
+            return self.no_room();
         };
         let Some(asked) = target.get_mut(..size as usize) else {
-            return no_room(rt);
+            return self.no_room();
         };
         let answer = file::make_closing(self.state, self.edition, bytes, closing, asked);
         self.target = target;
-        self.tell(rt, answer.err())?;
+        self.tell(answer.err())?;
         if answer.is_ok() {
             self.record.copy_from_slice(&self.target[..40]);
         }
@@ -208,35 +210,35 @@ impl Desk {
     }
 
     // The first `size` bytes of the run.
-    fn take(&mut self, rt: &impl Print, size: u64) -> io::Result<()> {
+    fn take(&mut self, size: u64) -> io::Result<()> {
         let Some(run) = self.run.as_flattened().get(..size as usize) else {
-            return no_room(rt);
+            return self.no_room();
         };
         let r = file::replay(self.state, run);
         self.state = r.state;
         let (row, place) = row_and_place(r.ended.err());
-        print!(rt;
+        print!(self.rt;
             " blocks {} refused {row} place {place} next {}",
             r.blocks, r.state.next
         )
     }
 
     // A byte of the run is changed.
-    fn poke(&mut self, rt: &impl Print, at: u64, byte: u64) -> io::Result<()> {
+    fn poke(&mut self, at: u64, byte: u64) -> io::Result<()> {
         let Ok(byte) = u8::try_from(byte) else {
-            return no_room(rt);
+            return self.no_room();
         };
         let Some(place) = self.run.as_flattened_mut().get_mut(at as usize) else {
-            return no_room(rt);
+            return self.no_room();
         };
         *place = byte;
         Ok(())
     }
 
     // A block of the run gets its check.
-    fn seal(&mut self, rt: &impl Print, block: u64) -> io::Result<()> {
+    fn seal(&mut self, block: u64) -> io::Result<()> {
         let Some(block) = self.run.get_mut(block as usize) else {
-            return no_room(rt);
+            return self.no_room();
         };
         let check = file::check(&block[..510]);
         block[510..].copy_from_slice(&check.to_le_bytes());
@@ -244,42 +246,42 @@ impl Desk {
     }
 
     // Bytes of the target, in hexadecimal.
-    fn bytes(&self, rt: &impl Print, from: u64, to: u64) -> io::Result<()> {
-        print!(rt; " ")?;
+    fn bytes(&self, from: u64, to: u64) -> io::Result<()> {
+        print!(self.rt; " ")?;
         for byte in self.target.iter().take(to as usize).skip(from as usize) {
-            print!(rt; "{byte:02x}")?;
+            print!(self.rt; "{byte:02x}")?;
         }
         Ok(())
     }
 
-    fn show(&self, rt: &impl Print) -> io::Result<()> {
+    fn show(&self) -> io::Result<()> {
         let st = &self.state;
-        print!(rt; " minute {} zero {}", st.minute, readings(st.zero))?;
-        print!(rt; " span {} pairs {}", readings(st.span), st.pending)?;
-        print!(rt;
+        print!(self.rt; " minute {} zero {}", st.minute, readings(st.zero))?;
+        print!(self.rt; " span {} pairs {}", readings(st.span), st.pending)?;
+        print!(self.rt;
             " total {} outside {} over {}",
             st.total, st.outside, st.over
         )?;
-        print!(rt; " call {} calibration ", Or(st.demand, "-"))?;
+        print!(self.rt; " call {} calibration ", Or(st.demand, "-"))?;
         match st.calibration {
-            Some(f) => print!(rt; "{} {} {} {}", f.slope, f.intercept, f.top.0, f.minute),
-            None => print!(rt; "-"),
+            Some(f) => print!(self.rt; "{} {} {} {}", f.slope, f.intercept, f.top.0, f.minute),
+            None => print!(self.rt; "-"),
         }
     }
 
     // A line for each chart.
-    fn charts(&self, rt: &impl Print) -> io::Result<()> {
+    fn charts(&self) -> io::Result<()> {
         let st = &self.state;
-        charts_cases::show(rt, "zero", st.setting.zero, st.zero)?;
-        charts_cases::show(rt, "span", st.setting.span, st.span)
+        charts_cases::show(self.rt, "zero", st.setting.zero, st.zero)?;
+        charts_cases::show(self.rt, "span", st.setting.span, st.span)
     }
 
     // The six alarms and usable.
-    fn report(&self, rt: &impl Print) -> io::Result<()> {
+    fn report(&self) -> io::Result<()> {
         let r = file::reporting::report(self.state);
         // By hand: a bool prints true and false.
         let usable = if r.usable { "yes" } else { "no" };
-        print!(rt;
+        print!(self.rt;
             " alarms {}{} usable {usable}",
             Flags(r.zero),
             Flags(r.span)
