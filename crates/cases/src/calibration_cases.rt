@@ -1119,7 +1119,7 @@ impl<R: Print + AllocGlobal> Runner<'_, R> {
         }
     }
 
-    // Conditions and reference oxygen stay two, as in `calibration`.
+    // Conditions and reference oxygen stay two: the one is a pair's, the other of the requirements, and a type for both would be made for these calls alone.
     fn conditions(&self, k: Conditions, reference: i32) -> io::Result<()> {
         print!(self.rt; " t {} p {} h {}", k.temperature, k.pressure, k.water)?;
         print!(self.rt; " o {} reference {reference}", k.oxygen)

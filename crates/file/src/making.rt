@@ -25,7 +25,7 @@ pub struct Closing {
 
 // ---- the forty bytes
 
-// A record of zeros but for its first eight bytes.
+// A record of zeros but for its first eight bytes. Kind and mark are the record's bytes, as they are written.
 fn head_bytes(kind: u8, mark: u8, minute: u32) -> [u8; 40]
     ensures { result ≡ written (replicate 40 0) 0 (head_of kind mark minute) }
 {
@@ -111,7 +111,7 @@ fn close(st: State, closing: Closing) -> Result<[u8; 40], Refusal>
 }
 
 // Making a closing for a block of the edition told into the target, with any state, any edition, any bytes, any closing and any target. State and edition
-// stay two, as in `append`.
+// stay two, and an edition is a byte, as in `append`.
 pub fn make_closing(
     st: State,
     edition: u8,

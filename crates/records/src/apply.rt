@@ -233,7 +233,7 @@ fn with_reset(mut st: State, r: &[u8; 40]) -> State
     st
 }
 
-// A closing: with the mark that passes its kind, what a pass does, else it has failed.
+// A closing: with the mark that passes its kind, what a pass does, else it has failed. The mark stays a byte, as in `change_chart`.
 #[tactic(auto, unfolding(crate::specs::Record::mark, crate::specs::Record::minute))]
 fn with_closing<F: FnOnce(State) -> State>(st: State, r: &[u8; 40], pass: u8, passed: F) -> State
     requires { F.pre passed st }

@@ -10,6 +10,13 @@ pub(crate) fn chunk<const N: usize>(bytes: &[u8], at: usize) -> [u8; N]
     *bytes[at..].first_chunk().unwrap()
 }
 
+// A byte as a length.
+pub fn wide(byte: u8) -> usize
+    ensures { (result ≡ byte) × (result < 256) }
+{
+    usize::from(byte)
+}
+
 // The number in two bytes. Two and four bytes have a function each, here, below and in `fields`: each is one call of the library, and a trait over the two widths is longer
 // than both.
 pub fn read16(bytes: &[u8], at: usize) -> u16

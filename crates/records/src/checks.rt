@@ -118,7 +118,7 @@ fn among(day: u32, pairs: &[Waiting]) -> bool
     pairs.iter().any(|w| day == w.end / 1440)
 }
 
-// How many different days the pairs end on.
+// How many different days the pairs end on. By a loop: with `filter` and `count` the slice past each pair isn't proved to be there.
 fn different_days(pairs: &[Waiting]) -> usize
     ensures { result ≡ different (map end_day pairs.now) }
 {
