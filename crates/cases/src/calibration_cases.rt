@@ -8,12 +8,16 @@ ghost use Rattle.calibration.specs.Pairs.{AllRanged, RequirementsRanged};
 
 use crate::print::Or;
 use crate::runner::Runner;
+use arrayvec::ArrayVec;
 use calibration::{Actual, Basis, Conditions, Figures, Line, Pair, Requirements, Verdicts};
 use refusals::Refusal;
-use std::alloc::{AllocError, Global};
+use std::alloc::AllocError;
 use std::{fmt, io, iter};
 
 // ---- what a case is given
+
+// The most pairs that a case has.
+const PAIRS: usize = 1000;
 
 // The conditions of the pairs, with E, σ and Z, which an annual test leaves aside.
 #[derive(Clone, Copy)]
@@ -70,12 +74,11 @@ impl Setup {
     // n pairs with the signals and SRM values of a list; past its end, the last ones.
     pub fn pairs(
         self,
-        alloc: Global,
         n: usize,
         figures: &[(i32, i32)],
-    ) -> Result<Vec<Pair>, AllocError> {
+    ) -> Result<ArrayVec<Pair, PAIRS>, AllocError> {
         let last = figures.last().copied().unwrap_or((0, 0));
-        figures
+        let all = figures
             .iter()
             .copied()
             .chain(iter::repeat(last))
@@ -85,8 +88,10 @@ impl Setup {
                 signal,
                 srm: Actual(value),
                 conditions: self.conditions(i == 0),
-            })
-            .collect(alloc)
+            });
+        let mut pairs = ArrayVec::new();
+        pairs.extend(all)?;
+        Ok(pairs)
     }
 }
 
@@ -1103,7 +1108,7 @@ const ANNUAL_TESTS: [(usize, Setup, Line, &[Case<'static>]); 27] = [
 
 // ---- a line for each
 
-impl<R: Print + AllocGlobal> Runner<'_, R> {
+impl<R: Print> Runner<'_, R> {
     pub fn basis(&self, s: Setup) -> Basis {
         Basis {
             edition: self.edition,
@@ -1177,7 +1182,7 @@ impl<R: Print + AllocGlobal> Runner<'_, R> {
         requires { F.IsAlwaysCallable line }
     {
         for (name, figures) in cases {
-            let pairs = s.pairs(self.rt.alloc(), n, figures)?;
+            let pairs = s.pairs(n, figures)?;
             line(name, pairs.as_slice())?;
         }
         Ok(())

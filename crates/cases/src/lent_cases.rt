@@ -31,21 +31,21 @@ const NO_EDITION: [(u8, &str, usize, Setup); 6] = [
     (3, "lent-edition-3", 31, Neutral(66470, 6647, 0)),
 ];
 
-impl<R: Print + AllocGlobal> Runner<'_, R> {
+impl<R: Print> Runner<'_, R> {
     fn lent_list(&self, name: &str, pairs: &[Pair], s: Setup) -> io::Result<()> {
         let fit = calibration::fit_list(pairs, self.basis(s), s.z());
         self.fit_line(name, pairs.len(), s, Some(Fit(fit)))
     }
 
     fn lent_table(&self, name: &str, n: usize, s: Setup) -> io::Result<()> {
-        let pairs = s.pairs(self.rt.alloc(), n, &TABLE_E2)?;
+        let pairs = s.pairs(n, &TABLE_E2)?;
         self.lent_list(name, pairs.as_slice(), s)
     }
 
     // A field is outside in the last pair alone.
     fn last_outside(&self) -> io::Result<()> {
         let s = Neutral(100, 6647, 0);
-        let mut pairs = s.pairs(self.rt.alloc(), 1000, &TABLE_E2)?;
+        let mut pairs = s.pairs(1000, &TABLE_E2)?;
         if let Some(last) = pairs.last_mut() {
             last.signal = 400001;
         }
@@ -55,7 +55,7 @@ impl<R: Print + AllocGlobal> Runner<'_, R> {
     pub fn lent(&self) -> io::Result<()> {
         self.lent_table("lent-table-E.2", 15, Neutral(66470, 6647, 0))?;
         let s = Neutral(10000, 500, 0);
-        let halves = s.pairs(self.rt.alloc(), 15, &[(40000, 1)])?;
+        let halves = s.pairs(15, &[(40000, 1)])?;
         self.lent_list("lent-half-B", halves.as_slice(), s)?;
         for (name, n, s) in LENT {
             self.lent_table(name, n, s)?;
@@ -64,7 +64,7 @@ impl<R: Print + AllocGlobal> Runner<'_, R> {
     }
 }
 
-pub fn no_edition(rt: &(impl Print + AllocGlobal)) -> io::Result<()> {
+pub fn no_edition(rt: &(impl Print)) -> io::Result<()> {
     for (edition, name, n, s) in NO_EDITION {
         Runner { rt, edition }.lent_table(name, n, s)?;
     }

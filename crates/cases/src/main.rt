@@ -22,7 +22,7 @@ use runner::Runner;
 use std::io;
 
 // The cases of every layer below the records.
-fn layers(rt: &(impl Print + AllocGlobal), edition: u8) -> io::Result<()> {
+fn layers(rt: &(impl Print), edition: u8) -> io::Result<()> {
     let runner = Runner { rt, edition };
     runner.rounding()?;
     runner.charts()?;

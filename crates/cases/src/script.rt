@@ -3,13 +3,14 @@
 use crate::script_command::command_of;
 use crate::script_desk::{self, Desk};
 use crate::script_words::{first_word, numbers};
+use arrayvec::ArrayVec;
 use std::io;
 use std::io::Read;
 
 // A script is shorter than this.
-const LIMIT: u64 = 262144;
+const LIMIT: usize = 262144;
 
-fn line<R: Print + AllocGlobal>(rt: &R, desk: &mut Desk<'_, R>, text: &[u8]) -> io::Result<()> {
+fn line<R: Print>(rt: &R, desk: &mut Desk<'_, R>, text: &[u8]) -> io::Result<()> {
     let (word, rest) = first_word(text);
     match word {
         [] | [b'#', ..] => return Ok(()),
@@ -21,7 +22,7 @@ fn line<R: Print + AllocGlobal>(rt: &R, desk: &mut Desk<'_, R>, text: &[u8]) -> 
         b"check" => return script_desk::show_check(rt, rest),
         _ => {}
     }
-    let Some(numbers) = numbers(rt.alloc(), rest)? else {
+    let Some(numbers) = numbers(rest) else {
         return println!(rt; "unknown");
     };
     match command_of(word, numbers.as_slice()) {
@@ -30,14 +31,14 @@ fn line<R: Print + AllocGlobal>(rt: &R, desk: &mut Desk<'_, R>, text: &[u8]) -> 
     }
 }
 
-pub fn run(rt: &(impl Print + Input + AllocGlobal)) -> io::Result<()> {
-    let mut script = Vec::new(rt.alloc());
-    rt.reader().take(LIMIT).read_to_end(&mut script)?;
-    if script.len() as u64 == LIMIT {
+pub fn run(rt: &(impl Print + Input)) -> io::Result<()> {
+    let mut script = ArrayVec::<u8, LIMIT>::new();
+    io::copy(&mut rt.reader().take(LIMIT as u64), &mut script)?;
+    if script.is_full() {
         return println!(rt; "the script is too long");
     }
-    let mut desk = Desk::new(rt, rt.alloc());
-    for text in script.split(|b| *b == b'\n') {
+    let mut desk = Desk::new(rt);
+    for text in script.as_slice().split(|b| *b == b'\n') {
         line(rt, &mut desk, text)?;
     }
     Ok(())

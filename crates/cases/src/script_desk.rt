@@ -3,11 +3,11 @@
 use crate::print::{Flags, Or};
 use crate::script_command::Command;
 use crate::{charts_cases, script_record};
+use arrayvec::ArrayVec;
 use charts::Chart;
 use file::{Closing, Refused};
 use records::state::State;
 use refusals::Refusal;
-use std::alloc::Global;
 use std::io;
 
 // The most bytes that are listed, those of a block, and those of a target.
@@ -28,7 +28,7 @@ pub struct Desk<'a, R> {
     state: State,
     kept: State,
     record: [u8; 40],
-    list: Vec<u8>,
+    list: ArrayVec<u8, LIST>,
     // An array with a count beside it: bytes past the blocks that were formed are poked, sealed and taken too.
     run: [[u8; BLOCK]; 4],
     formed: usize,
@@ -64,14 +64,14 @@ pub fn show_check(rt: &impl Print, text: &[u8]) -> io::Result<()> {
 }
 
 impl<'a, R: Print> Desk<'a, R> {
-    pub fn new(rt: &'a R, alloc: Global) -> Desk<'a, R> {
+    pub fn new(rt: &'a R) -> Desk<'a, R> {
         let state = records::apply::initial(0);
         Desk {
             rt,
             state,
             kept: state,
             record: [0; 40],
-            list: Vec::new(alloc),
+            list: ArrayVec::new(),
             run: [[0; BLOCK]; 4],
             formed: 0,
             target: [FILL; TARGET],
@@ -142,10 +142,9 @@ impl<'a, R: Print> Desk<'a, R> {
 
     // The prepared record is listed.
     fn list(&mut self) -> io::Result<()> {
-        if LIST < self.list.len() + 40 {
+        if self.list.try_extend_from_slice(&self.record).is_err() {
             return self.no_room();
         }
-        self.list.extend_from_slice(&self.record)?;
         Ok(())
     }
 

@@ -1,5 +1,8 @@
 // A line of the script, taken apart: its words, and the numbers among them.
-use std::alloc::{AllocError, Global};
+use arrayvec::ArrayVec;
+
+// The most numbers of a command: kind, mark and minute of a record, and eight fields.
+const NUMBERS: usize = 11;
 
 // The first word of a line, and what follows the space behind it.
 pub fn first_word(line: &[u8]) -> (&[u8], &[u8]) {
@@ -18,14 +21,11 @@ fn number(word: &[u8]) -> Option<u64> {
     (n.unsigned_abs() < 1000000000000000).then_some(n.cast_unsigned())
 }
 
-// The numbers of a part of a line, with spaces between them, if nothing else stands there.
-pub fn numbers(alloc: Global, text: &[u8]) -> Result<Option<Vec<u64>>, AllocError> {
-    let mut numbers = Vec::new(alloc);
+// The numbers of a part of a line, with spaces between them, if nothing else stands there, and no more than a command has.
+pub fn numbers(text: &[u8]) -> Option<ArrayVec<u64, NUMBERS>> {
+    let mut numbers = ArrayVec::new();
     for word in text.split(|b| *b == b' ').filter(|w| !w.is_empty()) {
-        let Some(n) = number(word) else {
-            return Ok(None);
-        };
-        numbers.push(n)?;
+        numbers.try_push(number(word)?).ok()?;
     }
-    Ok(Some(numbers))
+    Some(numbers)
 }
