@@ -12,6 +12,7 @@ use Rattle.calibration.specs.declared.Actual.{Actual}
 use Rattle.calibration.specs.declared.Conditions.{Conditions}
 use Rattle.calibration.proofs.ConditionLaws.{Factor, Sized, times_sized, temperature_factor, pressure_factor, water_factor, oxygen_factor}
 use Rattle.calibration.proofs.standard_conditions.Goals as goal
+use Rattle.calibration.proofs.standard_conditions.Goals.{After-times-o}
 
 -- a call of `times`: its arguments, what it asks, what it answers, and what is known of the answer
 record Call (f m : ℕ) : Type 0 where
@@ -121,28 +122,26 @@ times-o-requires c =
     let e₃ = rw c.from-3.ensures at c.times-h.ensures in
     rw (c.from-air.ensures, c.from-4.ensures) (asks a.edition (call₄ a.edition a.reference a.k a.v c.ranges.reference c.requires T e₁ P e₂ H e₃) (omega arith))
 
+-- the last answer, and that it fits
+answered : (c : After-times-o)
+    → SFits w32 c.times-o.result × (to_z w32 (of_z w32 (to_z w64 (of_z w64 c.times-o.result))) ≡ (standard_of c.args.edition c.args.reference c.args.k c.args.v).0)
+answered c =
+    let a = c.args in
+    let T : SFits w64 c.times-t.result = record { sfits = c.times-t.type_inv } in
+    let P : SFits w64 c.times-p.result = record { sfits = c.times-p.type_inv } in
+    let H : SFits w64 c.times-h.result = record { sfits = c.times-h.type_inv } in
+    let O : SFits w64 c.times-o.result = record { sfits = c.times-o.type_inv } in
+    let e₁ = rw (c.from-x.ensures, c.from.ensures) at c.times-t.ensures in
+    let e₂ = rw c.from-2.ensures at c.times-p.ensures in
+    let e₃ = rw c.from-3.ensures at c.times-h.ensures in
+    let e₄ = rw (c.from-air.ensures, c.from-4.ensures) at c.times-o.ensures in (
+      small a.edition a.reference a.k a.v c.ranges.reference c.requires T e₁ P e₂ H e₃ O e₄,
+      result a.edition a.reference a.k a.v c.ranges.reference c.requires T e₁ P e₂ H e₃ O e₄,
+    )
+
 pub overflow_cast-result : goal.overflow_cast-result
 overflow_cast-result c =
-    let a = c.args in
-    let T : SFits w64 c.times-t.result = record { sfits = c.times-t.type_inv } in
-    let P : SFits w64 c.times-p.result = record { sfits = c.times-p.type_inv } in
-    let H : SFits w64 c.times-h.result = record { sfits = c.times-h.type_inv } in
-    let O : SFits w64 c.times-o.result = record { sfits = c.times-o.type_inv } in
-    let e₁ = rw (c.from-x.ensures, c.from.ensures) at c.times-t.ensures in
-    let e₂ = rw c.from-2.ensures at c.times-p.ensures in
-    let e₃ = rw c.from-3.ensures at c.times-h.ensures in
-    let e₄ = rw (c.from-air.ensures, c.from-4.ensures) at c.times-o.ensures in
-    cast_need w32 (arg c.times-o.result O) (small a.edition a.reference a.k a.v c.ranges.reference c.requires T e₁ P e₂ H e₃ O e₄)
+    cast_need w32 (arg {w = w64} c.times-o.result (record { sfits = c.times-o.type_inv })) (answered (goal.at.overflow_cast-result c).After-times-o).0
 
 pub returns : goal.returns
-returns c =
-    let a = c.args in
-    let T : SFits w64 c.times-t.result = record { sfits = c.times-t.type_inv } in
-    let P : SFits w64 c.times-p.result = record { sfits = c.times-p.type_inv } in
-    let H : SFits w64 c.times-h.result = record { sfits = c.times-h.type_inv } in
-    let O : SFits w64 c.times-o.result = record { sfits = c.times-o.type_inv } in
-    let e₁ = rw (c.from-x.ensures, c.from.ensures) at c.times-t.ensures in
-    let e₂ = rw c.from-2.ensures at c.times-p.ensures in
-    let e₃ = rw c.from-3.ensures at c.times-h.ensures in
-    let e₄ = rw (c.from-air.ensures, c.from-4.ensures) at c.times-o.ensures in
-    ap (λ (z : ℤ). record { 0 = z }) (result a.edition a.reference a.k a.v c.ranges.reference c.requires T e₁ P e₂ H e₃ O e₄)
+returns c = ap (λ (z : ℤ). record { 0 = z }) (answered (goal.at.returns c).After-times-o).1
