@@ -1,8 +1,8 @@
 -- Rows and their numbers: no two rows have one number, and none has 0, which stands for no refusal.
-use Rattle.std.proofs.Common.{◌≡◌, refl, ap, sym, ◌∙◌, false, ℕ}
-use Rattle.std.specs.Prelude.{eqb, Result, Ok, Err, IsErrAnd, if◌then◌else◌}
+use Rattle.std.proofs.Common.{◌≡◌, refl, ap, sym, ◌∙◌, arith}
+use Rattle.std.specs.Prelude.{ℕ, zero, suc, Bool, true, false, T, eqb, ltb, Result, Ok, Err, IsErrAnd, if◌then◌else◌}
 use Rattle.std.proofs.lemmas.Bool.{false≢true}
-use Rattle.refusals.specs.Rows.{number_of, outcome_of}
+use Rattle.refusals.specs.Rows.{number_of, outcome_of, ◌when◌, ◌or◌}
 use Rattle.refusals.specs.declared.Refusal.{Refusal}
 use Rattle.refusals.specs.declared.Refusal.TheVariants.{Length, Check, Header, Analyser, Sequence, Records, State, Layout, Place, Minute, Range, Unstarted, Full, Times, Coverage, Waiting, Function, Count, Days, Divisor, Slope, Beyond, Stored, Edition}
 
@@ -104,3 +104,28 @@ outcome_same (Err d) (Err e) h = ap Err (number_same d e h)
 pub passed_on : {A : Type 0} (x : Result A Refusal) (e : Refusal) → IsErrAnd x (λ d. d ≡ e) → x ≡ Err e
 passed_on (Ok a) e h = absurd h
 passed_on (Err d) e h = ap Err h
+
+-- ---- a table read downwards: what it tells that no row fits
+
+pub rows_passed : (n : ℕ) {m : ℕ} → (n or m) ≡ 0 → (n ≡ 0) × (m ≡ 0)
+rows_passed zero e = (refl, e)
+rows_passed (suc n) e = absurd (omega arith)
+
+pub unfit : (n : ℕ) (b : Bool) → T (ltb 0 n) → (n when b) ≡ 0 → b ≡ false
+unfit zero b t e = absurd t
+unfit (suc n) true t e = absurd (omega arith)
+unfit (suc n) false t e = refl
+
+-- the topmost row does not fit, nor one of those below
+pub row_passed : (n : ℕ) (b : Bool) {m : ℕ} → T (ltb 0 n) → (n when b or m) ≡ 0 → (b ≡ false) × (m ≡ 0)
+row_passed n b t e = let p = rows_passed (n when b) e in (unfit n b t p.0, p.1)
+
+-- ---- and what is known of the rows above tells of the table
+
+pub or_next : (n m : ℕ) → n ≡ 0 → (n or m) ≡ m
+or_next zero m e = refl
+or_next (suc n) m e = absurd (omega arith)
+
+pub or_stop : (n m : ℕ) → (n ≡ 0 → ⊥) → (n or m) ≡ n
+or_stop zero m e = absurd (e refl)
+or_stop (suc n) m e = refl

@@ -1,6 +1,6 @@
 -- The numbers of the table 'Where input is stopped', and of row 26. 7 is no row of the table: it refuses a state whose numbers are so large that the
 -- arithmetic would not fit (docs/DECISIONS.md).
-use Rattle.std.specs.Prelude.{ℕ, Result, Ok, Err}
+use Rattle.std.specs.Prelude.{ℕ, zero, suc, Bool, true, false, Result, Ok, Err}
 use Rattle.refusals.specs.declared.Refusal.{Refusal}
 use Rattle.refusals.specs.declared.Refusal.TheVariants.{Length, Records, Check, Header, Analyser, Sequence, Edition, State, Layout, Place, Minute, Range, Unstarted, Full, Times, Coverage, Waiting, Function, Count, Days, Divisor, Slope, Beyond, Stored}
 
@@ -35,3 +35,17 @@ number_of Edition = 26
 abbrev pub outcome_of : {A : Type 0} → Result A Refusal → ℕ
 outcome_of (Ok x) = 0
 outcome_of (Err e) = number_of e
+
+-- ---- rows of a table, read downwards: the first that fits gives its number, and 0 is no refusal
+
+infixr 12 ◌or◌
+infix 14 ◌when◌
+-- one row: its number where the test holds, else 0
+abbrev pub ◌when◌ : ℕ → Bool → ℕ
+n when true = n
+n when false = 0
+
+-- the rows above, and where none of them fits the rows below
+abbrev pub ◌or◌ : ℕ → ℕ → ℕ
+zero or m = m
+suc n or m = suc n
