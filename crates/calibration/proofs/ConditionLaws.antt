@@ -10,10 +10,10 @@ use Rattle.calibration.specs.Pairs.{Between, ConditionsRanged, OxygenRanged, Pai
 use Rattle.calibration.specs.PairLaws.{between_abs, between_size}
 use Rattle.calibration.specs.Conditions.{times_of, standard_of}
 use Rattle.calibration.specs.Calibration.{measured_of, calibrated_of, value_of, c_of, LineRanged}
-use Rattle.calibration.specs.declared.Actual.{Actual}
-use Rattle.calibration.specs.declared.Conditions.{Conditions}
-use Rattle.calibration.specs.declared.Pair.{Pair}
-use Rattle.calibration.specs.declared.Line.{Line}
+use Rattle.calibration.specs.declared.conditions.Actual.{Actual}
+use Rattle.calibration.specs.declared.conditions.Conditions.{Conditions}
+use Rattle.calibration.specs.declared.pairs.Pair.{Pair}
+use Rattle.calibration.specs.declared.line.Line.{Line}
 
 -- ---- ranges of sums and differences
 same_between : (z : ℤ) → Between z z z

@@ -8,8 +8,8 @@ use Rattle.calibration.specs.Pairs.{Between, PairRanged, ZRanged}
 use Rattle.calibration.specs.PairLaws.{between_abs, between_size, between_above, between_pos}
 use Rattle.calibration.specs.Calibration.{plus_of, rise_of, divisor_of, intercept_of, LineRanged}
 use Rattle.calibration.specs.CodeLaws.{SumsRanged}
-use Rattle.calibration.specs.declared.Pair.{Pair}
-use Rattle.calibration.specs.declared.Sums.{Sums}
+use Rattle.calibration.specs.declared.pairs.Pair.{Pair}
+use Rattle.calibration.specs.declared.regression.Sums.{Sums}
 
 -- ---- numbers from 0 up to a bound
 

@@ -8,9 +8,9 @@ use Rattle.calibration.specs.Calibration.{LineRanged, count_fits, divisor_of, fi
 use Rattle.calibration.proofs.SumLaws.{sums_ranged}
 use Rattle.calibration.proofs.FitLaws.{line_ranged}
 use Rattle.calibration.proofs.VerdictLaws.{count_above}
-use Rattle.calibration.specs.declared.Pair.{Pair}
-use Rattle.calibration.specs.declared.Requirements.{Requirements}
-use Rattle.calibration.specs.declared.Line.{Line}
+use Rattle.calibration.specs.declared.pairs.Pair.{Pair}
+use Rattle.calibration.specs.declared.pairs.Requirements.{Requirements}
+use Rattle.calibration.specs.declared.line.Line.{Line}
 use Rattle.calibration.specs.Outcomes.{Fitted}
 
 -- not refused, and then with a function in range

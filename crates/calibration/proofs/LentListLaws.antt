@@ -11,9 +11,9 @@ use Rattle.calibration.specs.Calibration.{count_fits, refused_fit, fit_of}
 use Rattle.calibration.specs.LentList.{all_ranged_of, list_ranged_of, fit_list_of}
 use Rattle.calibration.specs.Outcomes.{Fitted}
 use Rattle.calibration.proofs.VerdictLaws.{count_unfit}
-use Rattle.calibration.specs.declared.Pair.{Pair}
-use Rattle.calibration.specs.declared.Basis.{Basis}
-use Rattle.calibration.specs.declared.Requirements.{Requirements}
+use Rattle.calibration.specs.declared.pairs.Pair.{Pair}
+use Rattle.calibration.specs.declared.pairs.Basis.{Basis}
+use Rattle.calibration.specs.declared.pairs.Requirements.{Requirements}
 
 -- ---- what is asked of the list
 

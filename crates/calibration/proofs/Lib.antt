@@ -7,10 +7,8 @@ pub mod StandardBound
 pub mod ResidualLaws
 pub mod LentListLaws
 pub mod SumLaws
-pub mod SlopeLaws
 pub mod OrderLaws
 pub mod WideLaws
 pub mod RegressionLaws
 pub mod SampleLaws
 pub mod OutcomeLaws
-pub mod GatheredLaws

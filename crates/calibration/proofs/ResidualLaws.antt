@@ -15,11 +15,11 @@ use Rattle.calibration.specs.CodeLaws.{with_residual_of}
 use Rattle.calibration.proofs.FitLaws.{product_size}
 use Rattle.calibration.specs.ListLaws.{at, unset}
 use Rattle.calibration.specs.SpanLaws.{higher_has, higher_same, span_high}
-use Rattle.calibration.specs.declared.Line.{Line}
-use Rattle.calibration.specs.declared.Pair.{Pair}
-use Rattle.calibration.specs.declared.Residuals.{Residuals}
-use Rattle.calibration.specs.declared.Span.{Span}
-use Rattle.calibration.specs.declared.Standard.{Standard}
+use Rattle.calibration.specs.declared.line.Line.{Line}
+use Rattle.calibration.specs.declared.pairs.Pair.{Pair}
+use Rattle.calibration.specs.declared.residuals.Residuals.{Residuals}
+use Rattle.calibration.specs.declared.regression.Span.{Span}
+use Rattle.calibration.specs.declared.conditions.Standard.{Standard}
 
 -- ---- values that are not beyond
 pub not_far : (v : Standard) → far_of v ≡ false → Between (neg_ℤ (pos 10000000)) (pos 10000000) v.0

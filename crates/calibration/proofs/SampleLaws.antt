@@ -4,7 +4,7 @@ use Rattle.std.specs.List.{list_all}
 use Rattle.calibration.specs.Pairs.{AllRanged, pair_ranged_of}
 use Rattle.calibration.proofs.FitRange.{T_true}
 use Rattle.calibration.proofs.LentListLaws.{all_answers, all_is}
-use Rattle.calibration.specs.declared.Pair.{Pair}
+use Rattle.calibration.specs.declared.pairs.Pair.{Pair}
 
 pub all_ranged : (ps : List Pair) → list_all pair_ranged_of ps ≡ true → AllRanged ps
 all_ranged ps e = (all_answers ps).sure (subst T (sym (sym (all_is ps) ∙ e)) tt)

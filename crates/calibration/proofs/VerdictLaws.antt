@@ -12,12 +12,12 @@ use Rattle.calibration.specs.CodeLaws.{dispersion_of}
 use Rattle.calibration.specs.DispersionLaws.{q_not_negative}
 use Rattle.calibration.proofs.FitLaws.{product_size}
 use Rattle.calibration.proofs.ResidualLaws.{residuals_ranged}
-use Rattle.calibration.specs.declared.Line.{Line}
-use Rattle.calibration.specs.declared.Pair.{Pair}
-use Rattle.calibration.specs.declared.Requirements.{Requirements}
-use Rattle.calibration.specs.declared.Residuals.{Residuals}
-use Rattle.calibration.specs.declared.Standard.{Standard}
-use Rattle.calibration.specs.declared.Sums.{Sums}
+use Rattle.calibration.specs.declared.line.Line.{Line}
+use Rattle.calibration.specs.declared.pairs.Pair.{Pair}
+use Rattle.calibration.specs.declared.pairs.Requirements.{Requirements}
+use Rattle.calibration.specs.declared.residuals.Residuals.{Residuals}
+use Rattle.calibration.specs.declared.conditions.Standard.{Standard}
+use Rattle.calibration.specs.declared.regression.Sums.{Sums}
 
 -- ---- Q from the sums of the residuals of n pairs
 pub record Dispersed (n : ℕ) (r : Residuals) (q : ℤ) : Type 0 where

@@ -7,7 +7,7 @@ use Rattle.charts.specs.SignedLocals.{arg}
 use Rattle.charts.proofs.CastLaws.{unsigned}
 use Rattle.calibration.specs.Pairs.{RequirementsRanged, between_of}
 use Rattle.calibration.specs.PairLaws.{between_fits, between_above, between_size, wide_between}
-use Rattle.calibration.specs.declared.Requirements.{Requirements}
+use Rattle.calibration.specs.declared.pairs.Requirements.{Requirements}
 
 -- a range test
 pub taken_between : (a b : ℤ) {x z : ℤ} {r : Bool} → SFits w32 z → x ≡ to_z w32 (of_z w32 z) → r ≡ between_of a b (to_z w64 (of_z w64 x)) → r ≡ between_of a b z

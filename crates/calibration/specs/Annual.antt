@@ -2,9 +2,9 @@
 use Rattle.std.specs.Prelude.{Bool, not, ◌&&◌, ◌||◌, List, ℕ, ◌-◌, ◌*◌, leb, eqb, ℤ, pos, nat_abs, ◌-ℤ◌, ◌*ℤ◌, length, if◌then◌else◌}
 use Rattle.std.specs.Int.Signed.{le_z}
 use Rattle.calibration.specs.Calibration.{some_beyond, deviations_of, total, q_of}
-use Rattle.calibration.specs.declared.Pair.{Pair}
-use Rattle.calibration.specs.declared.Requirements.{Requirements}
-use Rattle.calibration.specs.declared.Line.{Line}
+use Rattle.calibration.specs.declared.pairs.Pair.{Pair}
+use Rattle.calibration.specs.declared.pairs.Requirements.{Requirements}
+use Rattle.calibration.specs.declared.line.Line.{Line}
 pub use Rattle.calibration.specs.Outcomes.{Tested, refused_test}
 
 -- the counts that an annual test may have

@@ -5,15 +5,15 @@ use Rattle.std.specs.Int.Signed.{le_z, lt_z}
 use Rattle.charts.specs.Rounding.{near_of}
 use Rattle.calibration.specs.Pairs.{Between, between_of}
 use Rattle.calibration.specs.Conditions.{standard_of}
-use Rattle.calibration.specs.declared.Actual.{Actual}
-use Rattle.calibration.specs.declared.Standard.{Standard}
-use Rattle.calibration.specs.declared.Conditions.{Conditions}
-use Rattle.calibration.specs.declared.Pair.{Pair}
-use Rattle.calibration.specs.declared.Requirements.{Requirements}
-use Rattle.calibration.specs.declared.Line.{Line}
-use Rattle.calibration.specs.declared.Sums.{Sums}
-use Rattle.calibration.specs.declared.Span.{Span}
-use Rattle.calibration.specs.declared.Residuals.{Residuals}
+use Rattle.calibration.specs.declared.conditions.Actual.{Actual}
+use Rattle.calibration.specs.declared.conditions.Standard.{Standard}
+use Rattle.calibration.specs.declared.conditions.Conditions.{Conditions}
+use Rattle.calibration.specs.declared.pairs.Pair.{Pair}
+use Rattle.calibration.specs.declared.pairs.Requirements.{Requirements}
+use Rattle.calibration.specs.declared.line.Line.{Line}
+use Rattle.calibration.specs.declared.regression.Sums.{Sums}
+use Rattle.calibration.specs.declared.regression.Span.{Span}
+use Rattle.calibration.specs.declared.residuals.Residuals.{Residuals}
 pub use Rattle.calibration.specs.Outcomes.{Fitted, refused_fit}
 
 -- ---- sums over a list of pairs, oldest first

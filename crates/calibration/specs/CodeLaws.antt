@@ -12,9 +12,9 @@ use Rattle.charts.specs.Integers.{sum, diff, prod, one_zero, abs_ud, abs_prod, e
 use Rattle.calibration.specs.Pairs.{Between, between_of, between_answers}
 use Rattle.calibration.specs.Calibration.{slope_ranged_of, higher_of}
 use Rattle.calibration.specs.Annual.{function_of, t_of}
-use Rattle.calibration.specs.declared.Standard.{Standard}
-use Rattle.calibration.specs.declared.Sums.{Sums}
-use Rattle.calibration.specs.declared.Residuals.{Residuals}
+use Rattle.calibration.specs.declared.conditions.Standard.{Standard}
+use Rattle.calibration.specs.declared.regression.Sums.{Sums}
+use Rattle.calibration.specs.declared.residuals.Residuals.{Residuals}
 
 -- what at most thirty pairs in range sum to
 pub record SumsRanged (u : Sums) : Type 0 where

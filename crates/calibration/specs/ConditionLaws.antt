@@ -3,7 +3,7 @@ use Rattle.std.specs.Prelude.{pos, neg_ℤ}
 use Rattle.charts.specs.Tests.{Answers, answers_and, answers_as}
 use Rattle.calibration.specs.Pairs.{between_answers}
 use Rattle.calibration.specs.Calibration.{LineRanged, line_ranged_of}
-use Rattle.calibration.specs.declared.Line.{Line}
+use Rattle.calibration.specs.declared.line.Line.{Line}
 
 pub line_answers : (l : Line) → Answers (line_ranged_of l) (LineRanged l)
 unfolding line_ranged_of

@@ -5,9 +5,9 @@ use Rattle.std.specs.Prelude.{Bool, true, not, ◌&&◌, List, [], ◌∷◌, �
 use Rattle.charts.specs.Rounding.{edition_known}
 use Rattle.calibration.specs.Pairs.{pair_ranged_of, requirements_ranged_of, z_ranged_of}
 use Rattle.calibration.specs.Calibration.{refused_fit, fit_of}
-use Rattle.calibration.specs.declared.Pair.{Pair}
-use Rattle.calibration.specs.declared.Basis.{Basis}
-use Rattle.calibration.specs.declared.Requirements.{Requirements}
+use Rattle.calibration.specs.declared.pairs.Pair.{Pair}
+use Rattle.calibration.specs.declared.pairs.Basis.{Basis}
+use Rattle.calibration.specs.declared.pairs.Requirements.{Requirements}
 use Rattle.calibration.specs.Outcomes.{Fitted}
 
 -- every pair of a list is in range

@@ -2,7 +2,7 @@
 use Rattle.std.specs.Prelude.{◌≡◌, List, [], ◌∷◌, ℕ, zero, suc, ◌+◌, ◌≤◌, ◌<◌, length, take, drop, get_or, pos}
 use Rattle.std.proofs.Common.{◌∙◌, arith, add-one, drop_of_length-le, length-take-le, drop-cons, get_or-take}
 use Rattle.calibration.specs.Pairs.{PairRanged, AllRanged}
-use Rattle.calibration.specs.declared.Pair.{Pair}
+use Rattle.calibration.specs.declared.pairs.Pair.{Pair}
 
 -- where P of a list says Q of its head and P of its tail, it says Q of each member
 pub at : {A : Type 0} (P : List A → Type 0) (Q : A → Type 0) → ((a : A) (l : List A) → P (a ∷ l) → Q a × P l)

@@ -8,7 +8,7 @@ use Rattle.std.proofs.Math.Facts.{sfits_widen}
 use Rattle.charts.specs.Integers.{one_zero, abs_ud, le_ud, ud_le, ud_eq, abs_sfits}
 use Rattle.charts.specs.SignedLocals.{Loc, arg, cast, cast_need, cast_u, cast_u_need}
 use Rattle.calibration.specs.Pairs.{Between, between_of, RequirementsRanged}
-use Rattle.calibration.specs.declared.Requirements.{Requirements}
+use Rattle.calibration.specs.declared.pairs.Requirements.{Requirements}
 
 -- ---- a number between two others
 

@@ -4,8 +4,8 @@ use mathlib.Core.List.{List, [], ◌∷◌, foldl}
 use Rattle.std.specs.Int.Signed.{lt_z}
 use Rattle.charts.specs.Tests.{if_all}
 use Rattle.calibration.specs.Calibration.{lower_of, higher_of, widened_of, span_from, span_of}
-use Rattle.calibration.specs.declared.Standard.{Standard}
-use Rattle.calibration.specs.declared.Span.{Span}
+use Rattle.calibration.specs.declared.conditions.Standard.{Standard}
+use Rattle.calibration.specs.declared.regression.Span.{Span}
 
 -- each is one of the two
 pub lower_has : (P : Standard → Type 0) (a b : Standard) → P a → P b → P (lower_of a b)

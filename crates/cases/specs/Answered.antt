@@ -6,7 +6,7 @@ use Rattle.std.specs.Int.{w64}
 use Rattle.std.specs.List.{list_all}
 use Rattle.charts.specs.Tests.{Answers, answers_and}
 use Rattle.calibration.specs.Pairs.{AllRanged, Between, between_of, between_answers, pair_ranged_of, pair_answers}
-use Rattle.calibration.specs.declared.Pair.{Pair}
+use Rattle.calibration.specs.declared.pairs.Pair.{Pair}
 
 -- r is the answer of a call that tests b
 pub yes : {r b : Bool} {P : Type 0} → Answers b P → r ≡ b → r ≡ true → P
