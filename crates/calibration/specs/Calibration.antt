@@ -150,22 +150,22 @@ top_of edition limit most =
     else share_of edition (pos 110) most.0
 
 -- ΣD and ΣD²
-abbrev pub total : List ℤ → ℤ
-total ds = ∑ (λ (d : ℤ). d) ds
+abbrev pub deviations_total : List ℤ → ℤ
+deviations_total ds = ∑ (λ (d : ℤ). d) ds
 
-abbrev pub squares : List ℤ → ℤ
-squares ds = ∑ (λ (d : ℤ). d *ℤ d) ds
+abbrev pub deviations_squared : List ℤ → ℤ
+deviations_squared ds = ∑ (λ (d : ℤ). d *ℤ d) ds
 
 -- Q = NΣD² - (ΣD)²
 unfoldable pub q_of : List ℤ → ℤ
-q_of ds = pos (length ds) *ℤ squares ds -ℤ total ds *ℤ total ds
+q_of ds = pos (length ds) *ℤ deviations_squared ds -ℤ deviations_total ds *ℤ deviations_total ds
 
 -- max c, ΣD, ΣD²
 unfoldable pub residuals_of : ℕ → ℤ → Line → List Pair → Residuals
 residuals_of edition reference l ps = record {
   most = (span_of (map (c_of edition reference l) ps)).high;
-  sum = total (deviations_of edition reference l ps);
-  squares = squares (deviations_of edition reference l ps);
+  sum = deviations_total (deviations_of edition reference l ps);
+  squares = deviations_squared (deviations_of edition reference l ps);
 }
 
 -- ---- the verdict

@@ -3,7 +3,7 @@ ghost use Rattle.std.specs.Prelude.{◌≡◌, ◌<◌, ◌≤◌, length};
 ghost use Rattle.calibration.specs.Pairs.{AllRanged, RequirementsRanged, ZRanged};
 ghost use Rattle.calibration.specs.Calibration.{LineRanged, fit_from, fit_of, line_fits};
 ghost use Rattle.calibration.specs.Outcomes.{fitted};
-ghost use Rattle.calibration.specs.CodeLaws.{SumsRanged};
+ghost use Rattle.calibration.specs.InCode.{SumsRanged};
 
 use crate::conditions::Standard;
 use crate::line::Line;

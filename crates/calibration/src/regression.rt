@@ -2,7 +2,7 @@
 ghost use Rattle.std.specs.Prelude.{◌≡◌, ◌<◌, ◌≤◌, pos, nat_abs, ◌<ℤ◌};
 ghost use Rattle.calibration.specs.Pairs.{Between, PairRanged, ZRanged};
 ghost use Rattle.calibration.specs.Calibration.{divisor_of, intercept_of, plus_of, rise_of, widened_of};
-ghost use Rattle.calibration.specs.CodeLaws.{SumsRanged, slope_code};
+ghost use Rattle.calibration.specs.InCode.{SumsRanged, slope_code};
 
 use crate::conditions::Standard;
 use crate::pairs::Pair;

@@ -2,7 +2,7 @@
 ghost use Rattle.std.specs.Prelude.{◌≡◌, false, ◌≤◌, pos, nat_abs, ◌≤ℤ◌};
 ghost use Rattle.calibration.specs.Pairs.{Between};
 ghost use Rattle.calibration.specs.Calibration.{far_of, share_of, top_of};
-ghost use Rattle.calibration.specs.CodeLaws.{dispersion_of, with_residual_of};
+ghost use Rattle.calibration.specs.InCode.{dispersion_of, with_residual_of};
 
 use crate::conditions::Standard;
 use crate::ranges::between;

@@ -1,7 +1,7 @@
 // The counts of pairs, the factors, and the tests of both verdicts (paper 01, 'Calibration (6.4, 6.5)' and 'Annual test (8.4, 8.5)').
 ghost use Rattle.std.specs.Prelude.{◌≡◌, ◌-◌, ◌*◌, ◌<◌, ◌≤◌, leb, pos, nat_abs};
 ghost use Rattle.calibration.specs.Calibration.{count_fits, k_of};
-ghost use Rattle.calibration.specs.Annual.{annual_count_fits, annual_k_of, function_of, t_of};
+ghost use Rattle.calibration.specs.Annual.{annual_count_fits, annual_k_of, function_holds_of, t_of};
 
 // The numbers of pairs that a calibration takes, and those of an annual test below, are data, as the factors are.
 #[tactic(auto, using(std::proofs::lemmas::Bool::Decides::nat_tests), unfolding(crate::specs::Calibration::count_fits))]
@@ -89,7 +89,7 @@ pub fn covered(n: u32, l: u64, q: u64) -> bool
 // The function test: |ΣD| is at most Nσ, or what it exceeds that by is covered.
 pub fn function_holds(n: u32, sum: i64, q: u64, sigma: u32) -> bool
     requires { (n ≤ 8) × (0 < n) × (nat_abs sum ≤ 600000000) × (q ≤ 1000000000000000000) × (sigma ≤ 10000) }
-    ensures { result ≡ function_of n sum (pos q) (pos sigma) }
+    ensures { result ≡ function_holds_of n sum (pos q) (pos sigma) }
 {
     let a = sum.unsigned_abs();
     let b = u64::from(n) * u64::from(sigma);

@@ -11,7 +11,7 @@ use Rattle.std.specs.Int.Signed.{mag, le_z, ≤ℤ_refl}
 use Rattle.charts.specs.Tests.{if_yes, if_all}
 use Rattle.charts.specs.Integers.{le_le_z, abs_sfits}
 use Rattle.calibration.specs.Pairs.{RequirementsRanged, ZRanged, z_ranged_of, between_answers}
-use Rattle.calibration.specs.PairLaws.{between_fits}
+use Rattle.calibration.proofs.RangeLaws.{between_fits}
 use Rattle.calibration.proofs.FitRange.{T_true, fitted_ranged}
 use Rattle.calibration.proofs.ResidualLaws.{top_bound, residuals_ranged}
 use Rattle.calibration.proofs.VerdictLaws.{count_above}

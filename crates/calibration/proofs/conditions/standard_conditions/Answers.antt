@@ -7,7 +7,7 @@ use Rattle.charts.specs.Integers.{abs_sfits}
 use Rattle.charts.specs.SignedLocals.{Loc, arg, lit, add, sub, cast, cast_need}
 use Rattle.calibration.specs.Pairs.{ConditionsRanged, OxygenRanged}
 use Rattle.calibration.specs.Conditions.{times_of, standard_of}
-use Rattle.calibration.specs.PairLaws.{between_fits, wide}
+use Rattle.calibration.proofs.RangeLaws.{between_fits, wide}
 use Rattle.calibration.specs.declared.conditions.Actual.{Actual}
 use Rattle.calibration.specs.declared.conditions.Conditions.{Conditions}
 use Rattle.calibration.proofs.ConditionLaws.{Factor, Sized, times_sized, temperature_factor, pressure_factor, water_factor, oxygen_factor}

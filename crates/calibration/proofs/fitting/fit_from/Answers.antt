@@ -6,11 +6,12 @@ use lib.Dec.{lit<}
 use mir.Val.{to_z, of_z}
 use Rattle.charts.specs.SignedLocals.{Loc, arg, lit, le_true, le_false}
 use Rattle.calibration.specs.Pairs.{Between, ZRanged, between_answers}
-use Rattle.calibration.specs.PairLaws.{between_fits}
+use Rattle.calibration.proofs.RangeLaws.{between_fits}
 use Rattle.calibration.specs.Outcomes.{refused_fit}
 use Rattle.calibration.specs.Calibration.{LineRanged, flat_of, rise_of, divisor_of, intercept_of, slope_ranged_of, line_fits, fit_from}
-use Rattle.calibration.specs.CodeLaws.{SumsRanged, slope_code, slope_refused, slope_taken}
-use Rattle.calibration.proofs.FitLaws.{rise_bound, divisor_bound, line_ranged}
+use Rattle.calibration.specs.InCode.{SumsRanged, slope_code}
+use Rattle.calibration.proofs.SlopeLaws.{slope_refused, slope_taken}
+use Rattle.calibration.proofs.SizeLaws.{rise_bound, divisor_bound, line_ranged}
 use Rattle.calibration.proofs.VerdictLaws.{divisor_by, slope_by, no_divisor, no_slope, a_line}
 use Rattle.calibration.specs.declared.pairs.Basis.{Basis}
 use Rattle.calibration.specs.declared.pairs.Pair.{Pair}

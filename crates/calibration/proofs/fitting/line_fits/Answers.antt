@@ -3,15 +3,15 @@ use Rattle.std.proofs.Common.{arith, ◌≡◌, refl, sym, ap, ◌∙◌, ◌<�
 use Rattle.std.specs.Prelude.{ℤ}
 use mir.Val.{to_z, of_z}
 use Rattle.calibration.specs.Calibration.{some_beyond, deviations_of, q_of, residuals_of, top_of}
-use Rattle.calibration.specs.PairLaws.{between_fits}
+use Rattle.calibration.proofs.RangeLaws.{between_fits}
 use Rattle.calibration.specs.Pairs.{RequirementsRanged}
-use Rattle.calibration.proofs.VerdictLaws.{Dispersed, dispersed, line_beyond, pairs_of_pairs, line_stands}
+use Rattle.calibration.proofs.VerdictLaws.{Dispersed, residuals_dispersed, line_beyond, pairs_of_pairs, line_stands}
 use Rattle.calibration.specs.declared.pairs.Basis.{Basis}
 use Rattle.calibration.specs.declared.line.Line.{Line}
 use Rattle.calibration.specs.declared.pairs.Pair.{Pair}
 use Rattle.calibration.specs.declared.pairs.Requirements.{Requirements}
 use Rattle.calibration.specs.declared.residuals.Residuals.{Residuals}
-use Rattle.calibration.proofs.WideLaws.{sigma_taken, taken_small}
+use Rattle.calibration.proofs.RangeLaws.{sigma_taken, taken_small}
 use Rattle.calibration.proofs.fitting.line_fits.Goals as goal
 
 limit : {q : Requirements} → RequirementsRanged q → to_z w32 (of_z w32 q.limit) ≡ q.limit
@@ -22,7 +22,7 @@ returns-then-beyond c = sym (line_beyond c.args.s.basis.edition c.args.s.basis.r
 
 module _ (b : Basis) (l : Line) (ps : List Pair) (P : 0 < length ps) (N : length ps ≤ 30) (B : some_beyond b.edition b.requirements.oxygen l ps ≡ false) where
   spread : {r : Residuals} → r ≡ residuals_of b.edition b.requirements.oxygen l ps → Dispersed (length ps) r (q_of (deviations_of b.edition b.requirements.oxygen l ps))
-  spread R = dispersed b.edition b.requirements.oxygen l ps (length ps) refl P N B R
+  spread R = residuals_dispersed b.edition b.requirements.oxygen l ps (length ps) refl P N B R
 
 pub dispersion-requires : goal.dispersion-requires
 dispersion-requires c =

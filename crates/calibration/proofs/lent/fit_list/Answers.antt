@@ -5,7 +5,7 @@ use Rattle.std.specs.List.{list_all}
 use Rattle.calibration.specs.Calibration.{fit_of}
 use Rattle.calibration.specs.LentList.{list_ranged_of}
 use Rattle.calibration.specs.Pairs.{pair_ranged_of, requirements_ranged_of, z_ranged_of}
-use Rattle.calibration.proofs.LentListLaws.{all_is, list_answers, list_unknown, list_unranged, list_ranged, list_over}
+use Rattle.calibration.proofs.FitListLaws.{list_answers, list_unknown, list_unranged, list_ranged, list_over}
 use Rattle.calibration.specs.declared.pairs.Pair.{Pair}
 use Rattle.calibration.specs.declared.pairs.Requirements.{Requirements}
 use Rattle.calibration.proofs.lent.fit_list.Goals as goal
@@ -15,7 +15,7 @@ returns-then-not-edition_known c = sym (list_unknown c.args.b c.args.z c.args.pa
 
 -- what the code tests is what the definition does
 tests : (q : Requirements) (z back : ℤ) (ps : List Pair) (a b c t : Bool) → back ≡ z → a ≡ requirements_ranged_of q → b ≡ z_ranged_of back → c ≡ list_all pair_ranged_of ps → (a && b && c) ≡ t → list_ranged_of q z ps ≡ t
-tests q z back ps a b c t B A Z C T = rw (← B, ← A, ← Z, ← all_is ps, ← C) T
+tests q z back ps a b c t B A Z C T = rw (← B, ← A, ← Z, ← C) T
 
 pub returns-then-not-ranged : goal.returns-then-not-ranged
 returns-then-not-ranged c =

@@ -6,7 +6,7 @@ use Rattle.charts.specs.Integers.{ints, abs_sfits}
 use Rattle.charts.specs.SignedLocals.{Loc, arg, mul, add, add_need, cast_need, cast}
 use Rattle.calibration.specs.Calibration.{LineRanged, calibrated_of}
 use Rattle.calibration.specs.Pairs.{Between}
-use Rattle.calibration.specs.PairLaws.{between_fits, wide}
+use Rattle.calibration.proofs.RangeLaws.{between_fits, wide}
 use Rattle.calibration.specs.declared.line.Line.{Line}
 use Rattle.calibration.proofs.ConditionLaws.{bx_bound, line_bound, calibrated_bound}
 use Rattle.calibration.proofs.line.calibrated.Goals as goal

@@ -3,12 +3,12 @@ use Rattle.std.proofs.Common.{◌<◌, w64}
 use Rattle.std.specs.Prelude.{pos, ◌+ℤ◌}
 use Rattle.charts.specs.SignedLocals.{Loc, arg, add, add_need, mul}
 use Rattle.calibration.specs.Pairs.{Between, PairRanged}
-use Rattle.calibration.specs.PairLaws.{between_fits, wide}
+use Rattle.calibration.proofs.RangeLaws.{between_fits, wide}
 use Rattle.calibration.specs.Calibration.{plus_of}
-use Rattle.calibration.specs.CodeLaws.{SumsRanged}
+use Rattle.calibration.specs.InCode.{SumsRanged}
 use Rattle.calibration.specs.declared.pairs.Pair.{Pair}
 use Rattle.calibration.specs.declared.regression.Sums.{Sums}
-use Rattle.calibration.proofs.FitLaws.{x_ranged, y_ranged, xy_ranged, xx_ranged, product_between, plus_ranged}
+use Rattle.calibration.proofs.SizeLaws.{x_ranged, y_ranged, xy_ranged, xx_ranged, product_between, plus_ranged}
 use Rattle.calibration.proofs.regression.plus.Goals as goal
 
 -- the pair's x and y, their products, and each sum with its new term

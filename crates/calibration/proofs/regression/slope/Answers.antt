@@ -10,9 +10,9 @@ use Rattle.charts.specs.Division.{Divided, division_of}
 use Rattle.charts.specs.declared.Division.{Division}
 use Rattle.charts.proofs.RoundingLaws.{division_parts}
 use Rattle.calibration.specs.Pairs.{Between, between_of, between_answers}
-use Rattle.calibration.specs.PairLaws.{between_abs, between_fits}
+use Rattle.calibration.proofs.RangeLaws.{between_abs, between_fits}
 use Rattle.calibration.specs.Calibration.{slope_ranged_of}
-use Rattle.calibration.specs.CodeLaws.{slope_parts, part_ranged, slope_far, slope_in, slope_out}
+use Rattle.calibration.proofs.SlopeLaws.{slope_parts, part_ranged, slope_far, slope_in, slope_out}
 use Rattle.charts.proofs.CastLaws.{signed, unsigned}
 use Rattle.calibration.proofs.regression.slope.Goals as goal
 

@@ -3,7 +3,7 @@ use Rattle.std.proofs.Common.{◌≤◌, arith, w64}
 use Rattle.std.specs.Prelude.{ℕ, pos, nat_abs, ◌*ℤ◌}
 use Rattle.charts.specs.Integers.{abs_diff, abs_sfits}
 use Rattle.charts.specs.SignedLocals.{Loc, arg, lit, sub, sub_need, mul, mul_need}
-use Rattle.calibration.proofs.FitLaws.{product_size}
+use Rattle.calibration.proofs.SizeLaws.{product_size}
 use Rattle.charts.proofs.CastLaws.{unsigned}
 use Rattle.calibration.specs.declared.residuals.Residuals.{Residuals}
 use Rattle.calibration.proofs.residuals.dispersion.Goals as goal

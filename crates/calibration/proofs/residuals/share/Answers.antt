@@ -4,8 +4,8 @@ use Rattle.std.specs.Prelude.{ℕ, ℤ, pos, nat_abs, ◌*ℤ◌}
 use Rattle.charts.specs.Integers.{ints, abs_sfits}
 use Rattle.charts.specs.SignedLocals.{Loc, arg, mul, cast, cast_need}
 use Rattle.charts.specs.Rounding.{near_of}
-use Rattle.calibration.specs.PairLaws.{wide}
-use Rattle.calibration.proofs.FitLaws.{product_size}
+use Rattle.calibration.proofs.RangeLaws.{wide}
+use Rattle.calibration.proofs.SizeLaws.{product_size}
 use Rattle.calibration.proofs.ResidualLaws.{share_bound}
 use Rattle.calibration.proofs.residuals.share.Goals as goal
 

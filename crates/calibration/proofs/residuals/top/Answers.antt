@@ -3,7 +3,7 @@ use Rattle.std.proofs.Common.{sym, ap, ◌∙◌, eq-eqb, ne_eqb, to_z-of_z, w32
 use Rattle.std.specs.Prelude.{pos, ◌==◌}
 use Rattle.charts.specs.Tests.{if_yes, if_no}
 use Rattle.calibration.specs.Calibration.{top_of, share_of, higher_of}
-use Rattle.calibration.specs.PairLaws.{between_fits}
+use Rattle.calibration.proofs.RangeLaws.{between_fits}
 use Rattle.calibration.proofs.OrderLaws.{max_is}
 use Rattle.calibration.proofs.ResidualLaws.{not_far}
 use Rattle.calibration.specs.declared.conditions.Standard.{Standard}

@@ -4,8 +4,8 @@ use Rattle.std.specs.Prelude.{nat_abs}
 use Rattle.charts.specs.Integers.{abs_sum, abs_sfits}
 use Rattle.charts.specs.SignedLocals.{Loc, arg, add, add_need, sub, mul, mul_need}
 use Rattle.calibration.specs.Calibration.{far_of}
-use Rattle.calibration.specs.CodeLaws.{with_residual_of}
-use Rattle.calibration.specs.PairLaws.{between_fits, wide}
+use Rattle.calibration.specs.InCode.{with_residual_of}
+use Rattle.calibration.proofs.RangeLaws.{between_fits, wide}
 use Rattle.calibration.proofs.OrderLaws.{max_is}
 use Rattle.calibration.proofs.ResidualLaws.{not_far, residual_size, square_size}
 use Rattle.calibration.specs.declared.residuals.Residuals.{Residuals}

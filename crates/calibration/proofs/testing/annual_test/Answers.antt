@@ -4,15 +4,15 @@ use Rattle.std.specs.Prelude.{ℤ, pos, nat_abs}
 use mir.Val.{to_z}
 use Rattle.charts.specs.Integers.{abs_sfits}
 use Rattle.charts.specs.SignedLocals.{Loc, arg, cast_u}
-use Rattle.calibration.specs.Annual.{annual_count_fits, function_of}
+use Rattle.calibration.specs.Annual.{annual_count_fits, function_holds_of}
 use Rattle.calibration.specs.Calibration.{some_beyond, deviations_of, q_of, residuals_of}
-use Rattle.calibration.proofs.VerdictLaws.{Dispersed, dispersed, annual_count, test_unfit, test_beyond, test_stands}
+use Rattle.calibration.proofs.VerdictLaws.{Dispersed, residuals_dispersed, annual_count, test_unfit, test_beyond, test_stands}
 use Rattle.calibration.specs.declared.pairs.Basis.{Basis}
 use Rattle.calibration.specs.declared.line.Line.{Line}
 use Rattle.calibration.specs.declared.pairs.Pair.{Pair}
 use Rattle.calibration.specs.declared.residuals.Residuals.{Residuals}
 use Rattle.calibration.proofs.SampleLaws.{all_tested}
-use Rattle.calibration.proofs.WideLaws.{sigma_taken, taken_small}
+use Rattle.calibration.proofs.RangeLaws.{sigma_taken, taken_small}
 use Rattle.calibration.proofs.testing.annual_test.Goals as goal
 
 -- ---- the count, the residuals and their sum
@@ -25,7 +25,7 @@ module _ (b : Basis) (l : Line) (ps : List Pair) (F : annual_count_fits (length 
 
   module _ (B : some_beyond b.edition b.requirements.oxygen l ps ≡ false) {r : Residuals} (R : r ≡ residuals_of b.edition b.requirements.oxygen l ps) where
     spread : Dispersed (length ps) r (q_of (deviations_of b.edition b.requirements.oxygen l ps))
-    spread = dispersed b.edition b.requirements.oxygen l ps (length ps) refl (omega (arith, counted)) (omega (arith, counted)) B R
+    spread = residuals_dispersed b.edition b.requirements.oxygen l ps (length ps) refl (omega (arith, counted)) (omega (arith, counted)) B R
 
     abbrev S : Loc w64
     S = arg r.sum (abs_sfits (omega (arith, spread.sum)))
@@ -78,4 +78,4 @@ returns c =
     test_stands b.edition b.requirements l ps (length ps) q c.cast_unsigned-sigma.result F B refl (c.dispersion-dispersed.ensures ∙ s.is) (sigma_taken c.requires.2 c.cast_unsigned-sigma.ensures)
     c.varied.result (c.varied.ensures ∙ rw c.annual_k_factor.ensures.0)
     c.function_holds.result
-    (c.function_holds.ensures ∙ ap (λ (z : ℤ). function_of (length ps) z (pos q) (pos c.cast_unsigned-sigma.result)) (sum_is b l ps F B c.residuals-r.ensures))
+    (c.function_holds.ensures ∙ ap (λ (z : ℤ). function_holds_of (length ps) z (pos q) (pos c.cast_unsigned-sigma.result)) (sum_is b l ps F B c.residuals-r.ensures))

@@ -1,6 +1,6 @@
 -- `calibration::verdicts::covered` meets its contract.
 use Rattle.std.proofs.Common.{◌∙◌, ap, ℕ, ◌-◌, ◌*◌, leb}
-use Rattle.calibration.specs.CodeLaws.{split_million}
+use Rattle.calibration.proofs.DividedLaws.{split_million}
 use Rattle.calibration.proofs.verdicts.covered.Goals as goal
 
 pub returns : goal.returns

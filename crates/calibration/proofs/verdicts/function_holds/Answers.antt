@@ -2,7 +2,7 @@
 use Rattle.std.proofs.Common.{◌≡◌, sym, ap, ◌∙◌, ◌-◌, ◌*◌, ℕ, arith, leb, rules}
 use Rattle.std.specs.Prelude.{nat_abs}
 use Rattle.calibration.specs.Annual.{t_of}
-use Rattle.calibration.specs.CodeLaws.{function_under, function_over}
+use Rattle.calibration.proofs.DividedLaws.{function_under, function_over}
 use Rattle.calibration.proofs.verdicts.function_holds.Goals as goal
 
 pub returns-then-a-b : goal.returns-then-a-b

@@ -1,6 +1,6 @@
 -- `calibration::verdicts::varied` meets its contract.
 use Rattle.std.proofs.Common.{◌*◌, ◌≤◌, arith, ℕ, mul-le-mul}
-use Rattle.calibration.specs.CodeLaws.{divided}
+use Rattle.calibration.proofs.DividedLaws.{divided}
 use Rattle.calibration.proofs.verdicts.varied.Goals as goal
 
 right-small : {m s k : ℕ} → m ≤ 870 → s ≤ 10000 → k ≤ 10000 → m * (s * s) * (k * k) ≤ 8700000000000000000

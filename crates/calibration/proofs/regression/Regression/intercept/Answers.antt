@@ -5,9 +5,9 @@ use lib.Dec.{lit<}
 use Rattle.charts.specs.Integers.{abs_sfits, abs_diff, ud_lt}
 use Rattle.charts.specs.SignedLocals.{Loc, lit, sub, sub_need, mul, mul_need, zero_minus}
 use Rattle.calibration.specs.Pairs.{Between}
-use Rattle.calibration.specs.PairLaws.{between_abs, between_fits, wide}
+use Rattle.calibration.proofs.RangeLaws.{between_abs, between_fits, wide}
 use Rattle.calibration.specs.Calibration.{intercept_of}
-use Rattle.calibration.proofs.FitLaws.{x_ranged, y_ranged, product_size}
+use Rattle.calibration.proofs.SizeLaws.{x_ranged, y_ranged, product_size}
 use Rattle.calibration.proofs.RegressionLaws.{N, X, Y, Z}
 use Rattle.calibration.specs.declared.regression.Regression.{Regression}
 use Rattle.calibration.proofs.regression.Regression.intercept.Goals as goal

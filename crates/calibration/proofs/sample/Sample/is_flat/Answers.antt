@@ -6,13 +6,14 @@ use lib.Signed.{lt_z}
 use mir.Syntax.{w32, w64}
 use Rattle.charts.specs.Integers.{abs_diff, abs_sfits}
 use Rattle.charts.specs.SignedLocals.{Loc, lit, sub, mul, lt_flag}
-use Rattle.calibration.specs.PairLaws.{between_abs, between_fits, wide}
+use Rattle.calibration.proofs.RangeLaws.{between_abs, between_fits, wide}
 use Rattle.calibration.specs.Pairs.{AllRanged, RequirementsRanged}
 use Rattle.calibration.specs.Calibration.{measured_of, span_of, flat_of}
-use Rattle.calibration.specs.ListLaws.{next_pair, ranged_at, unset}
-use Rattle.calibration.specs.SpanLaws.{Spanned, widened_spanned, span_begun}
+use Rattle.charts.specs.ListLaws.{drop_next}
+use Rattle.calibration.proofs.RangeLaws.{ranged_at, unset}
+use Rattle.calibration.proofs.SpanLaws.{Spanned, widened_spanned, span_begun}
 use Rattle.calibration.proofs.ConditionLaws.{measured_bound}
-use Rattle.calibration.proofs.FitLaws.{product_size}
+use Rattle.calibration.proofs.SizeLaws.{product_size}
 use Rattle.calibration.specs.declared.pairs.Basis.{Basis}
 use Rattle.calibration.specs.declared.pairs.Pair.{Pair}
 use Rattle.calibration.specs.declared.regression.Span.{Span}
@@ -32,7 +33,7 @@ loop-p-init c =
     let h = sized b ps (all_ranged c.args.self.pairs.now c.args.self.ranged) c.args.self.required 0 c.args.self.some in
     record {
       spanned = rw e (record { low = h; high = h });
-      whole = rw (e, next_pair ps 0 c.args.self.some) (span_begun (measured_of b.edition b.requirements.oxygen (get_or ps 0 unset)) (map (measured_of b.edition b.requirements.oxygen) (drop 1 ps)));
+      whole = rw (e, drop_next ps 0 unset c.args.self.some) (span_begun (measured_of b.edition b.requirements.oxygen (get_or ps 0 unset)) (map (measured_of b.edition b.requirements.oxygen) (drop 1 ps)));
     }
 
 pub measured-first-requires : goal.measured-first-requires
@@ -48,7 +49,7 @@ loop-p-preserved c =
     let i = c.loop-p.p-index in
     let h = c.loop-p-test.true in
     let v = measured_of b.edition b.requirements.oxygen (get_or ps i unset) in
-    let left = rw (next_pair ps i h) at c.loop-p.invariant.whole in
+    let left = rw (drop_next ps i unset h) at c.loop-p.invariant.whole in
     record {
       spanned = rw (c.widened-s.ensures, c.measured.ensures) (widened_spanned v c.loop-p.invariant.spanned (sized b ps (all_ranged c.args.self.pairs.now c.args.self.ranged) c.args.self.required i h));
       whole = rw (c.widened-s.ensures, c.measured.ensures) left;

@@ -1,7 +1,7 @@
 -- The loop's invariant: `s` with the values left makes the whole span, and its ends are in range.
 use Rattle.std.proofs.Common.{◌≡◌, drop, map}
 use Rattle.calibration.specs.Calibration.{measured_of, span_from, span_of}
-use Rattle.calibration.specs.SpanLaws.{Spanned}
+use Rattle.calibration.proofs.SpanLaws.{Spanned}
 use Rattle.calibration.proofs.sample.Sample.is_flat.Given as goal
 
 abbrev pub invariant-loop-p : goal.invariant-loop-p

@@ -1,8 +1,9 @@
 -- `calibration::sample::Sample::residuals` meets its contract.
 use Rattle.std.proofs.Common.{◌≡◌, ◌∙◌, ◌<◌, false, ℕ, List, length, drop, get_or, arith}
 use Rattle.calibration.specs.Calibration.{measured_of, c_of, far_of, some_beyond}
-use Rattle.calibration.specs.ListLaws.{next_pair, ranged_at, unset}
-use Rattle.calibration.proofs.ResidualLaws.{with_pair, pair_near, near_at, residuals_from, begun_ranged, with_residual_ranged}
+use Rattle.charts.specs.ListLaws.{drop_next}
+use Rattle.calibration.proofs.RangeLaws.{ranged_at, unset}
+use Rattle.calibration.proofs.ResidualLaws.{with_residual_of_pair, pair_near, near_at, residuals_from, begun_ranged, with_residual_ranged}
 use Rattle.calibration.specs.declared.pairs.Basis.{Basis}
 use Rattle.calibration.specs.declared.line.Line.{Line}
 use Rattle.calibration.specs.declared.pairs.Pair.{Pair}
@@ -18,7 +19,7 @@ loop-p-init c =
     let p = get_or ps 0 unset in
     record {
       ranged = rw e (begun_ranged edition o c.args.l p (near_at edition o c.args.l ps 0 c.args.self.some c.requires.1));
-      whole = rw (e, next_pair ps 0 c.args.self.some) (residuals_from edition o c.args.l p (drop 1 ps));
+      whole = rw (e, drop_next ps 0 unset c.args.self.some) (residuals_from edition o c.args.l p (drop 1 ps));
     }
 
 pub fitted_value-requires : goal.fitted_value-requires
@@ -50,8 +51,8 @@ loop-p-preserved c =
     let o = c.args.self.basis.requirements.oxygen in
     let p = get_or ps i unset in
     let f = near c.args.self.basis c.args.l ps i h c.requires.1 in
-    let e : c.with_residual-r.result ≡ with_pair edition o c.args.l c.loop-p.r p = c.with_residual-r.ensures ∙ rw (c.measured.ensures, c.fitted_value-in-loop-p.ensures) in
-    let left = rw (next_pair ps i h) at c.loop-p.invariant.whole in
+    let e : c.with_residual-r.result ≡ with_residual_of_pair edition o c.args.l c.loop-p.r p = c.with_residual-r.ensures ∙ rw (c.measured.ensures, c.fitted_value-in-loop-p.ensures) in
+    let left = rw (drop_next ps i unset h) at c.loop-p.invariant.whole in
     record {
       ranged = rw e (with_residual_ranged (measured_of edition o p) (c_of edition o c.args.l p) c.loop-p.invariant.ranged f.0 f.1);
       whole = rw e left;

@@ -1,8 +1,9 @@
 -- `calibration::sample::Sample::sums` meets its contract.
 use Rattle.std.proofs.Common.{◌≡◌, refl, rules, arith}
 use Rattle.calibration.specs.Calibration.{plus_of}
-use Rattle.calibration.specs.ListLaws.{next_pair, ranged_at}
-use Rattle.calibration.proofs.FitLaws.{plus_ranged}
+use Rattle.charts.specs.ListLaws.{drop_next}
+use Rattle.calibration.proofs.RangeLaws.{ranged_at, unset}
+use Rattle.calibration.proofs.SizeLaws.{plus_ranged}
 use Rattle.calibration.proofs.SumLaws.{none, none_ranged, sums_from}
 use Rattle.calibration.proofs.SampleLaws.{all_ranged}
 use Rattle.calibration.proofs.sample.Sample.sums.Goals as goal
@@ -22,7 +23,7 @@ loop-p-preserved c =
     let i = c.loop-p.p-index in
     let h = c.loop-p-test.true in
     let e = c.plus-u.ensures in
-    let left = rw (next_pair ps i h) at c.loop-p.invariant.whole in
+    let left = rw (drop_next ps i unset h) at c.loop-p.invariant.whole in
     record {
       counted = rw e (omega arith);
       ranged = rw e (plus_ranged c.loop-p.invariant.ranged (omega arith) (ranged_at ps i h (all_ranged c.args.self.pairs.now c.args.self.ranged)));

@@ -2,7 +2,7 @@
 use Rattle.std.proofs.Common.{◌≡◌, drop}
 use mathlib.Core.List.{foldl}
 use Rattle.calibration.specs.Calibration.{plus_of, sums_of}
-use Rattle.calibration.specs.CodeLaws.{SumsRanged}
+use Rattle.calibration.specs.InCode.{SumsRanged}
 use Rattle.calibration.proofs.sample.Sample.sums.Given as goal
 
 abbrev pub invariant-loop-p : goal.invariant-loop-p

@@ -5,9 +5,9 @@ use Rattle.std.proofs.Math.Bool.{true, false}
 use Rattle.charts.specs.Integers.{sum, diff, one_zero, abs_ud, up_neg, dn_neg, le_ud, ud_le, ud_lt, abs_diff, abs_prod}
 use Rattle.charts.proofs.RoundingLaws.{near_bound}
 use Rattle.calibration.specs.Pairs.{Between, PairRanged, ZRanged}
-use Rattle.calibration.specs.PairLaws.{between_abs, between_size, between_above, between_pos}
+use Rattle.calibration.proofs.RangeLaws.{between_abs, between_size, between_above, between_pos}
 use Rattle.calibration.specs.Calibration.{plus_of, rise_of, divisor_of, intercept_of, LineRanged}
-use Rattle.calibration.specs.CodeLaws.{SumsRanged}
+use Rattle.calibration.specs.InCode.{SumsRanged}
 use Rattle.calibration.specs.declared.pairs.Pair.{Pair}
 use Rattle.calibration.specs.declared.regression.Sums.{Sums}
 

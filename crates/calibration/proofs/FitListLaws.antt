@@ -1,32 +1,24 @@
 -- What is asked of a lent list, and its fit branch by branch.
-use Rattle.std.specs.Prelude.{◌≡◌, refl, Bool, true, false, ◌&&◌, List, [], ◌∷◌, ℕ, ◌<◌, leb, ℤ, pos, neg_ℤ, length}
+use Rattle.std.specs.Prelude.{◌≡◌, refl, true, false, List, ℕ, ◌<◌, leb, ℤ, pos, neg_ℤ, length}
 use Rattle.std.proofs.Common.{ap, ◌∙◌, arith, ne_eqb, T_not}
-use Rattle.std.proofs.Math.Bool.{not}
+use Rattle.std.proofs.Math.Bool.{not, and-false}
 use Rattle.std.proofs.lemmas.Bool.{lt-leb}
-use Rattle.std.specs.List.{list_all}
 use Rattle.charts.specs.Tests.{if_yes, if_no, if_all, Answers, answers_and}
 use Rattle.charts.specs.Rounding.{edition_known}
-use Rattle.calibration.specs.Pairs.{AllRanged, RequirementsRanged, ZRanged, pair_ranged_of, pair_answers, requirements_answers, between_answers}
+use Rattle.calibration.specs.Pairs.{AllRanged, RequirementsRanged, ZRanged, requirements_answers, between_answers}
 use Rattle.calibration.specs.Calibration.{count_fits, refused_fit, fit_of}
-use Rattle.calibration.specs.LentList.{all_ranged_of, list_ranged_of, fit_list_of}
+use Rattle.calibration.specs.LentList.{list_ranged_of, fit_list_of}
 use Rattle.calibration.specs.Outcomes.{Fitted}
 use Rattle.calibration.proofs.VerdictLaws.{count_unfit}
+use Rattle.calibration.proofs.SampleLaws.{all_ranged_answers}
 use Rattle.calibration.specs.declared.pairs.Pair.{Pair}
 use Rattle.calibration.specs.declared.pairs.Basis.{Basis}
 use Rattle.calibration.specs.declared.pairs.Requirements.{Requirements}
 
 -- ---- what is asked of the list
 
-pub all_answers : (ps : List Pair) → Answers (all_ranged_of ps) (AllRanged ps)
-all_answers [] = record { sure = λ t. tt; back = λ r. tt }
-all_answers (p ∷ ps) = answers_and (pair_answers p) (all_answers ps)
-
 pub list_answers : (q : Requirements) (z : ℤ) (ps : List Pair) → Answers (list_ranged_of q z ps) ((RequirementsRanged q × ZRanged z) × AllRanged ps)
-list_answers q z ps = answers_and (answers_and (requirements_answers q) (between_answers (neg_ℤ (pos 10000)) (pos 10000) z)) (all_answers ps)
-
-pub all_is : (ps : List Pair) → list_all pair_ranged_of ps ≡ all_ranged_of ps
-all_is [] = refl
-all_is (p ∷ ps) = ap (λ (r : Bool). pair_ranged_of p && r) (all_is ps)
+list_answers q z ps = answers_and (answers_and (requirements_answers q) (between_answers (neg_ℤ (pos 10000)) (pos 10000) z)) (all_ranged_answers ps)
 
 -- where all is in range, the list's fit is that of a closing
 pub list_fits : (b : Basis) (z : ℤ) (ps : List Pair) → edition_known b.edition ≡ true → RequirementsRanged b.requirements → ZRanged z → AllRanged ps
@@ -42,11 +34,7 @@ list_fits b z ps K Q Z P =
 -- more than thirty pairs are too many
 count_over : (n : ℕ) → 30 < n → count_fits n ≡ false
 unfolding count_fits
-count_over n h = rw (lt-leb n 20 (omega arith), ne_eqb n 25 (λ e. omega arith), ne_eqb n 30 (λ e. omega arith), and_false (leb 15 n))
-  where
-    and_false : (b : Bool) → b && false ≡ false
-    and_false true = refl
-    and_false false = refl
+count_over n h = rw (lt-leb n 20 (omega arith), ne_eqb n 25 (λ e. omega arith), ne_eqb n 30 (λ e. omega arith), and-false (leb 15 n))
 
 module _ (b : Basis) (z : ℤ) (ps : List Pair) where
   pub list_unknown : edition_known b.edition ≡ false → fit_list_of b z ps ≡ refused_fit 3

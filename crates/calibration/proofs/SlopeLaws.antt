@@ -1,75 +1,16 @@
--- The formulas as the code works them out, and the ranges in which its arithmetic fits.
-use Rattle.std.specs.Prelude.{◌≡◌, Bool, true, false, ℕ, ◌+◌, ◌-◌, ◌*◌, ◌/◌, ◌%◌, ◌≤◌, ◌<◌, T, leb, ℤ, neg_ℤ, nat_abs, Option, Some, None, ◌+ℤ◌, ◌-ℤ◌, ◌*ℤ◌, ◌<ℤ◌, if◌then◌else◌}
+-- The code's B: none exactly where B is outside its range, and made of the whole part and the rest.
+use Rattle.std.specs.Prelude.{◌≡◌, Bool, true, false, ℕ, T, ℤ, neg_ℤ, Some, None, ◌+ℤ◌, ◌*ℤ◌, ◌<ℤ◌, if◌then◌else◌}
 use Rattle.std.proofs.Math.Path.{refl}
-use Rattle.std.proofs.Common.{sym, ap, subst, ◌∙◌, arith, le-div_iff_mul-le, div-add-mod'}
-use borrow.Author.Tests.{lt-leb}
+use Rattle.std.proofs.Common.{sym, ap, subst, ◌∙◌, arith}
 use Rattle.std.proofs.Math.IntN.{pos}
-use Rattle.charts.specs.Tests.{if_yes, if_no, same_answer, answers_as, answers_le}
+use Rattle.charts.specs.Tests.{if_yes, if_no}
 use Rattle.charts.specs.Rounding.{near_of}
 use Rattle.charts.proofs.RoundingLaws.{even_multiple, near_bound, near_nonneg, near_shift}
 use Rattle.charts.specs.Division.{Divided}
-use Rattle.charts.specs.Integers.{sum, diff, prod, one_zero, abs_ud, abs_prod, eq_ud, ud_eq, ud_le, le_ud, lt_ud, le_le_z, *ℤ-assoc, *ℤ-distrib}
+use Rattle.charts.specs.Integers.{sum, prod, one_zero, abs_ud, abs_prod, eq_ud, ud_le, le_ud, lt_ud, *ℤ-assoc, *ℤ-distrib}
 use Rattle.calibration.specs.Pairs.{Between, between_of, between_answers}
-use Rattle.calibration.specs.Calibration.{slope_ranged_of, higher_of}
-use Rattle.calibration.specs.Annual.{function_of, t_of}
-use Rattle.calibration.specs.declared.conditions.Standard.{Standard}
-use Rattle.calibration.specs.declared.regression.Sums.{Sums}
-use Rattle.calibration.specs.declared.residuals.Residuals.{Residuals}
-
--- what at most thirty pairs in range sum to
-pub record SumsRanged (u : Sums) : Type 0 where
-  pub n : u.n ≤ 30
-  pub x : Between (pos 0) (pos (400000 * u.n)) u.x
-  pub y : Between (pos 0) (pos (400000 * u.n)) u.y
-  pub xy : Between (pos 0) (pos (160000000000 * u.n)) u.xy
-  pub xx : Between (pos 0) (pos (160000000000 * u.n)) u.xx
-
--- B where it is in its range
-unfoldable pub slope_code : ℕ → ℤ → ℤ → Option ℤ
-slope_code edition rise divisor =
-    if slope_ranged_of (near_of edition (pos 100000 *ℤ rise) divisor) then Some (near_of edition (pos 100000 *ℤ rise) divisor)
-    else None
-
--- one pair more in the residuals
-unfoldable pub with_residual_of : Residuals → Standard → Standard → Residuals
-with_residual_of r y c = record {
-  most = higher_of r.most c;
-  sum = r.sum +ℤ (y.0 -ℤ c.0);
-  squares = r.squares +ℤ (y.0 -ℤ c.0) *ℤ (y.0 -ℤ c.0);
-}
-
--- NΣD² - (ΣD)², from the sums
-abbrev pub dispersion_of : ℕ → Residuals → ℤ
-dispersion_of n r = pos n *ℤ r.squares -ℤ r.sum *ℤ r.sum
-
--- ---- tests whose products pass 64 bits
-
--- s·q ≤ r is q ≤ r/s
-pub divided : (s q r : ℕ) → 0 < s → leb q (r / s) ≡ leb (s * q) r
-divided s q r h =
-    let i = le-div_iff_mul-le {k = s} {x = q} {y = r} h in
-    same_answer (answers_as (answers_le q (r / s)) (λ k. let m = i.0 k in omega arith) (λ k. i.1 (omega arith))) (answers_le (s * q) r)
-
--- a·10⁶ ≤ t·q, with q split at 10⁶
-pub split_million : (a t q : ℕ) → leb a (t * (q / 1000000) + t * (q % 1000000) / 1000000) ≡ leb (a * 1000000) (t * q)
-split_million a t q =
-    let e : t * q ≡ t * (q / 1000000) * 1000000 + t * (q % 1000000) = ap (λ (n : ℕ). t * n) (sym (div-add-mod' q 1000000)) ∙ omega arith in
-    same_answer (answers_as (answers_le a (t * (q / 1000000) + t * (q % 1000000) / 1000000)) (λ k. omega arith) (λ k. omega arith)) (answers_le (a * 1000000) (t * q))
-
--- ---- the function test, unsigned: the excess of |ΣD| over Nσ
-module _ (n : ℕ) (sum : ℤ) (q σ : ℕ) where
-  pub function_under : nat_abs sum ≤ n * σ → function_of n sum (pos q) (pos σ) ≡ true
-  unfolding function_of
-  function_under h =
-      let l = pos (nat_abs sum) -ℤ pos (n * σ) in
-      rw (le_le_z {a = l} {b = pos 0} (ud_le (omega (arith, diff (pos (nat_abs sum)) (pos (n * σ))))))
-
-  pub function_over : n * σ < nat_abs sum
-      → function_of n sum (pos q) (pos σ) ≡ leb ((n - 1) * ((nat_abs sum - n * σ) * (nat_abs sum - n * σ)) * 1000000) (t_of n * t_of n * q)
-  unfolding function_of
-  function_over h =
-      let e : pos (nat_abs sum) -ℤ pos (n * σ) ≡ pos (nat_abs sum - n * σ) = ud_eq (omega (arith, diff (pos (nat_abs sum)) (pos (n * σ)))) in
-      rw (e, lt-leb (nat_abs sum - n * σ) 0 (omega arith))
+use Rattle.calibration.specs.Calibration.{slope_ranged_of}
+use Rattle.calibration.specs.InCode.{slope_code}
 
 -- ---- the code's B: none exactly where B is outside its range
 refused : (b : ℤ) (t : Bool) → (if t then Some b else None) ≡ None → t ≡ false

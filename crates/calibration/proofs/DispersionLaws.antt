@@ -4,7 +4,7 @@ use Rattle.std.proofs.Common.{⊎_elim, arith, eq-zero-or-pos}
 use Rattle.std.proofs.Math.IntN.{*ℤ_comm}
 use Rattle.std.specs.Int.Signed.{≤ℤ_refl}
 use Rattle.charts.specs.Integers.{sum, diff, prod, up_neg, eq_ud, ud_eq, le_ud, ud_le, *ℤ-distrib, +ℤ-distrib-*}
-use Rattle.calibration.specs.Calibration.{total, squares, q_of}
+use Rattle.calibration.specs.Calibration.{deviations_total, deviations_squared, q_of}
 
 -- ---- twice a product is at most the squares
 ordered : (m n : ℕ) → m ≤ n → 2 * (m * n) ≤ m * m + n * n
@@ -35,12 +35,12 @@ square_sum a b =
     ud_eq (omega (arith, prod (pos 2) (a *ℤ b)))
 
 -- ---- 2dΣD ≤ ΣD² + Nd²
-crossed : (d : ℤ) (ds : List ℤ) → (pos 2 *ℤ (d *ℤ total ds)) ≤ℤ (squares ds +ℤ pos (length ds) *ℤ (d *ℤ d))
+crossed : (d : ℤ) (ds : List ℤ) → (pos 2 *ℤ (d *ℤ deviations_total ds)) ≤ℤ (deviations_squared ds +ℤ pos (length ds) *ℤ (d *ℤ d))
 crossed d [] = ud_le (omega (arith, prod d (pos 0), prod (pos 2) (d *ℤ pos 0), prod (pos 0) (d *ℤ d), sum (pos 0) (pos 0 *ℤ (d *ℤ d))))
 crossed d (e ∷ ds) =
     let n = length ds in
-    let s = total ds in
-    let q = squares ds in
+    let s = deviations_total ds in
+    let q = deviations_squared ds in
     let f₁ = le_ud (crossed d ds) in
     let f₂ = le_ud (twice_product d e) in
     let f₃ = eq_ud (*ℤ-distrib d e s) in
@@ -60,8 +60,8 @@ unfolding q_of
 q_not_negative [] = ≤ℤ_refl (pos 0)
 q_not_negative (d ∷ ds) =
     let n = length ds in
-    let s = total ds in
-    let q = squares ds in
+    let s = deviations_total ds in
+    let q = deviations_squared ds in
     let f₁ = le_ud (q_not_negative ds) in
     let f₂ = le_ud (crossed d ds) in
     let f₃ = eq_ud (square_sum d s) in
