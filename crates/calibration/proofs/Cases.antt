@@ -7,15 +7,15 @@ use Rattle.charts.proofs.RoundingLaws.{near_whole}
 use Rattle.charts.proofs.ChartCases.{ChartCases, chart_cases}
 use Rattle.calibration.specs.Pairs.{OxygenRanged}
 use Rattle.calibration.specs.Conditions.{standard_of}
-use Rattle.calibration.specs.Calibration.{total, q_of, k_of, varied_of}
-use Rattle.calibration.specs.Annual.{function_of, t_of}
+use Rattle.calibration.specs.Calibration.{deviations_total, q_of, k_of, varied_of}
+use Rattle.calibration.specs.Annual.{function_holds_of, t_of}
 
 -- the verdicts on a list of D's, at the required uncertainty σ
-abbrev pub passes : List ℤ → ℤ → Bool
-passes ds σ = varied_of (length ds) (q_of ds) σ
+abbrev pub varied_by : List ℤ → ℤ → Bool
+varied_by ds σ = varied_of (length ds) (q_of ds) σ
 
-abbrev pub holds : List ℤ → ℤ → Bool
-holds ds σ = function_of (length ds) (total ds) (q_of ds) σ
+abbrev pub function_held : List ℤ → ℤ → Bool
+function_held ds σ = function_holds_of (length ds) (deviations_total ds) (q_of ds) σ
 
 -- fifteen D's of which all but the first are 0, and five that are equal
 abbrev pub one : ℤ → List ℤ
@@ -31,11 +31,11 @@ pub record Cases : Type 0 where
   pub standard : (o : ℤ) → OxygenRanged o
       → standard_of 1 o (record { temperature = pos 10000; pressure = pos 0; water = pos 1000; oxygen = o }) (record { 0 = pos 10000 }) ≡ record { 0 = pos 15179 }
   -- 8 and 9
-  pub dispersed : (q_of (one (pos 3)) ≡ pos 126) × (passes (one (pos 3)) (pos 1) ≡ true)
-  pub overdispersed : (q_of (one (pos 4)) ≡ pos 224) × (passes (one (pos 4)) (pos 1) ≡ false)
+  pub dispersed : (q_of (one (pos 3)) ≡ pos 126) × (varied_by (one (pos 3)) (pos 1) ≡ true)
+  pub overdispersed : (q_of (one (pos 4)) ≡ pos 224) × (varied_by (one (pos 4)) (pos 1) ≡ false)
   -- 10 and 11
-  pub covered : holds (five (pos 700)) (pos 700) ≡ true
-  pub uncovered : holds (five (pos 701)) (pos 700) ≡ false
+  pub covered : function_held (five (pos 700)) (pos 700) ≡ true
+  pub uncovered : function_held (five (pos 701)) (pos 700) ≡ false
 
 -- the oxygen factor is then 1
 standard_is : (o : ℤ) → OxygenRanged o
@@ -46,7 +46,7 @@ standard_is o O =
     ap (λ (z : ℤ). record { 0 = z }) (near_whole 1 (pos 15179) (pos 2100 -ℤ o) d)
 
 pub cases : Cases
-unfolding q_of varied_of k_of function_of t_of
+unfolding q_of varied_of k_of function_holds_of t_of
 cases = record {
   charts = chart_cases;
   standard = standard_is;

@@ -7,13 +7,13 @@ use Rattle.charts.specs.Tests.{answers_le, answers_lt, answers_and}
 use Rattle.charts.proofs.RoundingLaws.{near_bound}
 use Rattle.charts.specs.Integers.{ints, diff, le_ud, ud_le, ud_lt, +ℤ-mono, abs_sum, abs_prod, abs_sfits}
 use Rattle.calibration.specs.Pairs.{Between, ConditionsRanged, OxygenRanged, PairRanged}
-use Rattle.calibration.specs.PairLaws.{between_abs, between_size}
+use Rattle.calibration.proofs.RangeLaws.{between_abs, between_size}
 use Rattle.calibration.specs.Conditions.{times_of, standard_of}
-use Rattle.calibration.specs.Calibration.{measured_of, calibrated_of, value_of, c_of, LineRanged}
-use Rattle.calibration.specs.declared.Actual.{Actual}
-use Rattle.calibration.specs.declared.Conditions.{Conditions}
-use Rattle.calibration.specs.declared.Pair.{Pair}
-use Rattle.calibration.specs.declared.Line.{Line}
+use Rattle.calibration.specs.Calibration.{measured_of, calibrated_of, value_of, LineRanged}
+use Rattle.calibration.specs.declared.conditions.Actual.{Actual}
+use Rattle.calibration.specs.declared.conditions.Conditions.{Conditions}
+use Rattle.calibration.specs.declared.pairs.Pair.{Pair}
+use Rattle.calibration.specs.declared.line.Line.{Line}
 
 -- ---- ranges of sums and differences
 same_between : (z : ℤ) → Between z z z
@@ -116,6 +116,3 @@ module _ (edition : ℕ) (reference : ℤ) (l : Line) (k : Conditions) (x : ℤ)
 -- y' and c of a pair in range
 pub measured_bound : (edition : ℕ) {reference : ℤ} {p : Pair} → OxygenRanged reference → PairRanged p → nat_abs (measured_of edition reference p).0 ≤ 33600000
 measured_bound edition {reference} {p} R P = standard_bound edition reference p.conditions p.srm 400000 R P.conditions (between_abs P.srm)
-
-pub c_bound : (edition : ℕ) {reference : ℤ} {l : Line} {p : Pair} → OxygenRanged reference → LineRanged l → PairRanged p → nat_abs (c_of edition reference l p).0 ≤ 672000000
-c_bound edition {reference} {l} {p} R L P = value_bound edition reference l p.conditions p.signal R L P.conditions P.signal

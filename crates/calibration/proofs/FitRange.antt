@@ -1,16 +1,17 @@
 -- A fit that is not refused gives a function in range.
 use Rattle.std.specs.Prelude.{◌≡◌, refl, Bool, true, false, not, List, ℕ, ◌≤◌, ◌<◌, T, ℤ, pos, length}
 use Rattle.std.proofs.Common.{arith}
+use Rattle.std.proofs.Math.Facts.{T_not-not}
 use Rattle.std.specs.Int.Signed.{le_z}
 use Rattle.charts.specs.Tests.{if_all}
 use Rattle.calibration.specs.Pairs.{between_answers, AllRanged, RequirementsRanged, ZRanged}
 use Rattle.calibration.specs.Calibration.{LineRanged, count_fits, divisor_of, fit_from, fit_of, flat_of, intercept_of, line_fits, refused_fit, slope_of, slope_ranged_of, some_beyond, sums_of}
 use Rattle.calibration.proofs.SumLaws.{sums_ranged}
-use Rattle.calibration.proofs.FitLaws.{line_ranged}
+use Rattle.calibration.proofs.SizeLaws.{line_ranged}
 use Rattle.calibration.proofs.VerdictLaws.{count_above}
-use Rattle.calibration.specs.declared.Pair.{Pair}
-use Rattle.calibration.specs.declared.Requirements.{Requirements}
-use Rattle.calibration.specs.declared.Line.{Line}
+use Rattle.calibration.specs.declared.pairs.Pair.{Pair}
+use Rattle.calibration.specs.declared.pairs.Requirements.{Requirements}
+use Rattle.calibration.specs.declared.line.Line.{Line}
 use Rattle.calibration.specs.Outcomes.{Fitted}
 
 -- not refused, and then with a function in range
@@ -19,10 +20,6 @@ Ranges c = c.refusal ≡ 0 → LineRanged c.line
 
 refused_ranges : (n : ℕ) → 0 < n → Ranges (refused_fit n)
 refused_ranges n l e = absurd (omega arith)
-
-T_not-not : (b : Bool) → T (not (not b)) → T b
-T_not-not true t = t
-T_not-not false t = t
 
 pub T_true : (b : Bool) → T b → b ≡ true
 T_true true t = refl

@@ -6,8 +6,8 @@ use Rattle.std.specs.Ordering.{is_lt, ord_min, ord_max}
 use Rattle.charts.specs.Tests.{if_all}
 use Rattle.charts.specs.Integers.{le_lt_z, le_ud, lt_ud, ud_le, ud_eq}
 use Rattle.calibration.specs.Calibration.{lower_of, higher_of}
-use Rattle.calibration.specs.contracts.StandardOrd.TheImpl.{cmp-value}
-use Rattle.calibration.specs.declared.Standard.{Standard}
+use Rattle.calibration.specs.contracts.conditions.StandardOrd.TheImpl.{cmp-value}
+use Rattle.calibration.specs.declared.conditions.Standard.{Standard}
 
 lesser : (t u : Bool) → is_lt (cond t Less (cond u Greater Equal)) ≡ t
 lesser true u = refl

@@ -4,8 +4,8 @@ use Rattle.std.specs.Prelude.{eqb, Result, Ok, Err, if◌then◌else◌}
 use Rattle.refusals.proofs.RowLaws.{row, row_is, above}
 use Rattle.refusals.specs.declared.Refusal.{Refusal}
 use Rattle.calibration.specs.Outcomes.{Fitted, Tested, fitted, tested}
-use Rattle.calibration.specs.declared.Figures.{Figures}
-use Rattle.calibration.specs.declared.Verdicts.{Verdicts}
+use Rattle.calibration.specs.declared.fitting.Figures.{Figures}
+use Rattle.calibration.specs.declared.testing.Verdicts.{Verdicts}
 
 -- the answer that has an outcome
 unfoldable pub fit_answer : Fitted → Result Figures Refusal

@@ -3,9 +3,9 @@ use Rattle.std.proofs.Common.{arith, ◌≤◌, w64}
 use Rattle.std.specs.Prelude.{pos, nat_abs, ◌*ℤ◌}
 use Rattle.charts.specs.Integers.{abs_sfits, abs_diff}
 use Rattle.charts.specs.SignedLocals.{Loc, arg, lit, sub, mul}
-use Rattle.calibration.specs.PairLaws.{between_abs, between_fits, wide}
-use Rattle.calibration.proofs.FitLaws.{n_ranged, x_ranged, y_ranged, xy_ranged, xx_ranged, product_between, product_size, apart}
-use Rattle.calibration.specs.declared.Regression.{Regression}
+use Rattle.calibration.proofs.RangeLaws.{between_abs, between_fits, wide}
+use Rattle.calibration.proofs.SizeLaws.{n_ranged, x_ranged, y_ranged, xy_ranged, xx_ranged, product_between, product_size, apart}
+use Rattle.calibration.specs.declared.regression.Regression.{Regression}
 
 module _ (r : Regression) where
   abbrev pub N : Loc w64

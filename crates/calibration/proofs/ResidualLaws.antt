@@ -9,17 +9,18 @@ use Rattle.charts.specs.Tests.{if_all}
 use Rattle.charts.specs.Integers.{ints, abs_sum, abs_diff}
 use Rattle.charts.proofs.RoundingLaws.{near_bound}
 use Rattle.calibration.specs.Pairs.{Between, between_of, between_answers}
-use Rattle.calibration.specs.PairLaws.{between_abs}
-use Rattle.calibration.specs.Calibration.{measured_of, c_of, far_of, beyond_of, some_beyond, higher_of, share_of, top_of, span_from, span_of, total, squares, deviations_of, residuals_of}
-use Rattle.calibration.specs.CodeLaws.{with_residual_of}
-use Rattle.calibration.proofs.FitLaws.{product_size}
-use Rattle.calibration.specs.ListLaws.{at, unset}
-use Rattle.calibration.specs.SpanLaws.{higher_has, higher_same, span_high}
-use Rattle.calibration.specs.declared.Line.{Line}
-use Rattle.calibration.specs.declared.Pair.{Pair}
-use Rattle.calibration.specs.declared.Residuals.{Residuals}
-use Rattle.calibration.specs.declared.Span.{Span}
-use Rattle.calibration.specs.declared.Standard.{Standard}
+use Rattle.calibration.proofs.RangeLaws.{between_abs}
+use Rattle.calibration.specs.Calibration.{measured_of, c_of, far_of, beyond_of, some_beyond, higher_of, share_of, top_of, span_from, span_of, deviations_total, deviations_squared, deviations_of, residuals_of}
+use Rattle.calibration.specs.InCode.{with_residual_of}
+use Rattle.calibration.proofs.SizeLaws.{product_size}
+use Rattle.charts.specs.ListLaws.{member_at}
+use Rattle.calibration.proofs.RangeLaws.{unset}
+use Rattle.calibration.proofs.SpanLaws.{higher_has, higher_same, span_high}
+use Rattle.calibration.specs.declared.line.Line.{Line}
+use Rattle.calibration.specs.declared.pairs.Pair.{Pair}
+use Rattle.calibration.specs.declared.residuals.Residuals.{Residuals}
+use Rattle.calibration.specs.declared.regression.Span.{Span}
+use Rattle.calibration.specs.declared.conditions.Standard.{Standard}
 
 -- ---- values that are not beyond
 pub not_far : (v : Standard) → far_of v ≡ false → Between (neg_ℤ (pos 10000000)) (pos 10000000) v.0
@@ -75,12 +76,12 @@ with_residual_ranged {r} y c R Y C =
 
 module _ (edition : ℕ) (reference : ℤ) (l : Line) where
   -- one pair more
-  abbrev pub with_pair : Residuals → Pair → Residuals
-  with_pair r p = with_residual_of r (measured_of edition reference p) (c_of edition reference l p)
+  abbrev pub with_residual_of_pair : Residuals → Pair → Residuals
+  with_residual_of_pair r p = with_residual_of r (measured_of edition reference p) (c_of edition reference l p)
 
   -- before the first pair, whose c is the greatest so far
-  abbrev pub begun : Pair → Residuals
-  begun p = record { most = c_of edition reference l p; sum = pos 0; squares = pos 0 }
+  abbrev pub residuals_begun : Pair → Residuals
+  residuals_begun p = record { most = c_of edition reference l p; sum = pos 0; squares = pos 0 }
 
   -- a pair that is not beyond, and one of a list that has none
   pub pair_near : (p : Pair) → beyond_of edition reference l p ≡ false → (far_of (measured_of edition reference p) ≡ false) × (far_of (c_of edition reference l p) ≡ false)
@@ -89,22 +90,22 @@ module _ (edition : ℕ) (reference : ℤ) (l : Line) where
 
   pub near_at : (ps : List Pair) (i : ℕ) → i < length ps → some_beyond edition reference l ps ≡ false → beyond_of edition reference l (get_or ps i unset) ≡ false
   near_at ps i h B =
-      at (λ ps. some_beyond edition reference l ps ≡ false) (λ p. beyond_of edition reference l p ≡ false)
+      member_at (λ ps. some_beyond edition reference l ps ≡ false) (λ p. beyond_of edition reference l p ≡ false)
       (λ p ps b. neither (beyond_of edition reference l p) (some_beyond edition reference l ps) b) ps i unset h B
 
   -- from r on, the greatest c and each sum take in what follows
   from : (r : Residuals) (ps : List Pair)
-      → foldl with_pair r ps
+      → foldl with_residual_of_pair r ps
       ≡ record {
         most = foldl higher_of r.most (map (c_of edition reference l) ps);
-        sum = r.sum +ℤ total (deviations_of edition reference l ps);
-        squares = r.squares +ℤ squares (deviations_of edition reference l ps);
+        sum = r.sum +ℤ deviations_total (deviations_of edition reference l ps);
+        squares = r.squares +ℤ deviations_squared (deviations_of edition reference l ps);
       }
   unfolding with_residual_of
   from r [] = simp +ℤ_idr
-  from r (p ∷ ps) = from (with_pair r p) ps ∙ simp +ℤ_assoc
+  from r (p ∷ ps) = from (with_residual_of_pair r p) ps ∙ simp +ℤ_assoc
 
-  pub residuals_from : (p : Pair) (ps : List Pair) → foldl with_pair (begun p) (p ∷ ps) ≡ residuals_of edition reference l (p ∷ ps)
+  pub residuals_from : (p : Pair) (ps : List Pair) → foldl with_residual_of_pair (residuals_begun p) (p ∷ ps) ≡ residuals_of edition reference l (p ∷ ps)
   unfolding residuals_of span_of
   residuals_from p ps =
       let c = c_of edition reference l p in
@@ -112,23 +113,23 @@ module _ (edition : ℕ) (reference : ℤ) (l : Line) where
       let ds = deviations_of edition reference l (p ∷ ps) in
       let s : Span = record { low = c; high = c } in
       let most : foldl higher_of (higher_of c c) cs ≡ (span_from s cs).high = ap (λ (v : Standard). foldl higher_of v cs) (higher_same c) ∙ sym (span_high s cs) in
-      from (begun p) (p ∷ ps) ∙ simp +ℤ_idl (ap (λ (v : Standard). record { most = v; sum = total ds; squares = squares ds }) most)
+      from (residuals_begun p) (p ∷ ps) ∙ simp +ℤ_idl (ap (λ (v : Standard). record { most = v; sum = deviations_total ds; squares = deviations_squared ds }) most)
 
   -- ---- their ranges
-  pub begun_ranged : (p : Pair) → beyond_of edition reference l p ≡ false → ResidualsRanged 0 (begun p)
+  pub begun_ranged : (p : Pair) → beyond_of edition reference l p ≡ false → ResidualsRanged 0 (residuals_begun p)
   begun_ranged p h = record { most = (pair_near p h).1; sum = omega arith; squares = omega arith }
 
-  from_ranged : (k : ℕ) (r : Residuals) (ps : List Pair) → ResidualsRanged k r → some_beyond edition reference l ps ≡ false → ResidualsRanged (k + length ps) (foldl with_pair r ps)
+  from_ranged : (k : ℕ) (r : Residuals) (ps : List Pair) → ResidualsRanged k r → some_beyond edition reference l ps ≡ false → ResidualsRanged (k + length ps) (foldl with_residual_of_pair r ps)
   from_ranged k r [] R h = let e : k + 0 ≡ k = omega arith in rw e R
   from_ranged k r (p ∷ ps) R h =
       let b = neither (beyond_of edition reference l p) (some_beyond edition reference l ps) h in
       let f = pair_near p b.0 in
       let e : k + 1 + length ps ≡ k + suc (length ps) = omega arith in
-      rw e at (from_ranged (k + 1) (with_pair r p) ps (with_residual_ranged (measured_of edition reference p) (c_of edition reference l p) R f.0 f.1) b.1)
+      rw e at (from_ranged (k + 1) (with_residual_of_pair r p) ps (with_residual_ranged (measured_of edition reference p) (c_of edition reference l p) R f.0 f.1) b.1)
 
   pub residuals_ranged : (ps : List Pair) → 0 < length ps → some_beyond edition reference l ps ≡ false → ResidualsRanged (length ps) (residuals_of edition reference l ps)
   residuals_ranged [] h B = absurd (omega arith)
   residuals_ranged (p ∷ ps) h B =
       let b = neither (beyond_of edition reference l p) (some_beyond edition reference l ps) B in
       let e : 0 + suc (length ps) ≡ suc (length ps) = omega arith in
-      rw (e, residuals_from p ps) at (from_ranged 0 (begun p) (p ∷ ps) (begun_ranged p b.0) B)
+      rw (e, residuals_from p ps) at (from_ranged 0 (residuals_begun p) (p ∷ ps) (begun_ranged p b.0) B)

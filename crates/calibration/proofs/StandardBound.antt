@@ -7,8 +7,8 @@ use Rattle.charts.proofs.RoundingLaws.{near_half_bound}
 use Rattle.charts.specs.Integers.{up, dn, sum, diff, prod, ud_eq, ud_lt, le_ud, abs_sum, abs_prod, abs_ud, one_zero, *ℤ-assoc}
 use Rattle.calibration.specs.Pairs.{ConditionsRanged, OxygenRanged}
 use Rattle.calibration.specs.Conditions.{times_of, standard_of}
-use Rattle.calibration.specs.declared.Actual.{Actual}
-use Rattle.calibration.specs.declared.Conditions.{Conditions}
+use Rattle.calibration.specs.declared.conditions.Actual.{Actual}
+use Rattle.calibration.specs.declared.conditions.Conditions.{Conditions}
 
 -- formula (20): the product of its four numerators, and that of its four divisors
 abbrev pub numerators : ℤ → Conditions → ℤ

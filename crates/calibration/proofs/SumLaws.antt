@@ -5,10 +5,10 @@ use mathlib.Core.List.{List, [], ◌∷◌, foldl}
 use Rattle.std.proofs.Math.IntN.{+ℤ_assoc, +ℤ_idl, +ℤ_idr}
 use Rattle.calibration.specs.Pairs.{AllRanged}
 use Rattle.calibration.specs.Calibration.{∑, x_of, y_of, sums_of, plus_of}
-use Rattle.calibration.specs.CodeLaws.{SumsRanged}
-use Rattle.calibration.proofs.FitLaws.{up_to, plus_ranged}
-use Rattle.calibration.specs.declared.Pair.{Pair}
-use Rattle.calibration.specs.declared.Sums.{Sums}
+use Rattle.calibration.specs.InCode.{SumsRanged}
+use Rattle.calibration.proofs.SizeLaws.{up_to, plus_ranged}
+use Rattle.calibration.specs.declared.pairs.Pair.{Pair}
+use Rattle.calibration.specs.declared.regression.Sums.{Sums}
 
 abbrev pub none : Sums
 none = record { n = 0; x = pos 0; y = pos 0; xy = pos 0; xx = pos 0 }

@@ -7,17 +7,17 @@ use Rattle.std.proofs.lemmas.List.{length-map}
 use Rattle.charts.specs.Tests.{answers_and, answers_le}
 use Rattle.charts.specs.Integers.{abs_diff, le_le_z, lt_le_z}
 use Rattle.calibration.specs.Calibration.{far_of, some_beyond, residual_of, deviations_of, q_of, residuals_of, top_of, k_of, varied_of, count_fits, refused_fit, line_fits, flat_of, divisor_of, slope_of, slope_ranged_of, intercept_of, fit_from, sums_of, fit_of}
-use Rattle.calibration.specs.Annual.{annual_count_fits, annual_k_of, annual_varied_of, function_of, refused_test, test_of}
-use Rattle.calibration.specs.CodeLaws.{dispersion_of}
-use Rattle.calibration.specs.DispersionLaws.{q_not_negative}
-use Rattle.calibration.proofs.FitLaws.{product_size}
+use Rattle.calibration.specs.Annual.{annual_count_fits, annual_k_of, annual_varied_of, function_holds_of, refused_test, test_of}
+use Rattle.calibration.specs.InCode.{dispersion_of}
+use Rattle.calibration.proofs.DispersionLaws.{q_not_negative}
+use Rattle.calibration.proofs.SizeLaws.{product_size}
 use Rattle.calibration.proofs.ResidualLaws.{residuals_ranged}
-use Rattle.calibration.specs.declared.Line.{Line}
-use Rattle.calibration.specs.declared.Pair.{Pair}
-use Rattle.calibration.specs.declared.Requirements.{Requirements}
-use Rattle.calibration.specs.declared.Residuals.{Residuals}
-use Rattle.calibration.specs.declared.Standard.{Standard}
-use Rattle.calibration.specs.declared.Sums.{Sums}
+use Rattle.calibration.specs.declared.line.Line.{Line}
+use Rattle.calibration.specs.declared.pairs.Pair.{Pair}
+use Rattle.calibration.specs.declared.pairs.Requirements.{Requirements}
+use Rattle.calibration.specs.declared.residuals.Residuals.{Residuals}
+use Rattle.calibration.specs.declared.conditions.Standard.{Standard}
+use Rattle.calibration.specs.declared.regression.Sums.{Sums}
 
 -- ---- Q from the sums of the residuals of n pairs
 pub record Dispersed (n : ℕ) (r : Residuals) (q : ℤ) : Type 0 where
@@ -48,8 +48,8 @@ module _ (edition : ℕ) (o : ℤ) (l : Line) (ps : List Pair) (n : ℕ) (C : le
         most = R.most;
       }
 
-  pub dispersed : {r : Residuals} → r ≡ residuals_of edition o l ps → Dispersed n r (q_of (deviations_of edition o l ps))
-  dispersed e = subst (λ (r : Residuals). Dispersed n r (q_of (deviations_of edition o l ps))) (sym e) here
+  pub residuals_dispersed : {r : Residuals} → r ≡ residuals_of edition o l ps → Dispersed n r (q_of (deviations_of edition o l ps))
+  residuals_dispersed e = subst (λ (r : Residuals). Dispersed n r (q_of (deviations_of edition o l ps))) (sym e) here
 
 pub pairs_of_pairs : (n : ℕ) → n ≤ 30 → n * (n - 1) ≤ 870
 pairs_of_pairs n h = mul-le-mul {n₂ = 30} {m₂ = 29} h (omega arith)
@@ -113,7 +113,7 @@ module _ (edition : ℕ) (q : Requirements) (l : Line) (ps : List Pair) where
 
   pub test_stands : (n d σ : ℕ) → annual_count_fits n ≡ true → some_beyond edition q.oxygen l ps ≡ false → length ps ≡ n → pos d ≡ q_of (deviations_of edition q.oxygen l ps) → q.uncertainty ≡ pos σ
       → (variability : Bool) → variability ≡ leb (400000000 * d) (9 * (n * (n - 1)) * (σ * σ) * (annual_k_of n * annual_k_of n))
-      → (function : Bool) → function ≡ function_of n (residuals_of edition q.oxygen l ps).sum (pos d) (pos σ)
+      → (function : Bool) → function ≡ function_holds_of n (residuals_of edition q.oxygen l ps).sum (pos d) (pos σ)
       → record { refusal = 0; variability = variability; function = function } ≡ test_of edition q l ps
   unfolding test_of annual_varied_of residuals_of
   test_stands n d σ F B C D S variability P function Q = rw (P, Q, C, F, B, ← D, S)

@@ -1,10 +1,10 @@
 -- Paper 01, 'Annual test (8.4, 8.5)', and paper 02, C-12. The definitions are those of the calibration, with the function in force.
 use Rattle.std.specs.Prelude.{Bool, not, ◌&&◌, ◌||◌, List, ℕ, ◌-◌, ◌*◌, leb, eqb, ℤ, pos, nat_abs, ◌-ℤ◌, ◌*ℤ◌, length, if◌then◌else◌}
 use Rattle.std.specs.Int.Signed.{le_z}
-use Rattle.calibration.specs.Calibration.{some_beyond, deviations_of, total, q_of}
-use Rattle.calibration.specs.declared.Pair.{Pair}
-use Rattle.calibration.specs.declared.Requirements.{Requirements}
-use Rattle.calibration.specs.declared.Line.{Line}
+use Rattle.calibration.specs.Calibration.{some_beyond, deviations_of, deviations_total, q_of}
+use Rattle.calibration.specs.declared.pairs.Pair.{Pair}
+use Rattle.calibration.specs.declared.pairs.Requirements.{Requirements}
+use Rattle.calibration.specs.declared.line.Line.{Line}
 pub use Rattle.calibration.specs.Outcomes.{Tested, refused_test}
 
 -- the counts that an annual test may have
@@ -32,8 +32,8 @@ unfoldable pub annual_varied_of : ℕ → ℤ → ℤ → Bool
 annual_varied_of n q σ = le_z (pos 400000000 *ℤ q) (pos (9 * (n * (n - 1))) *ℤ (σ *ℤ σ) *ℤ pos (annual_k_of n * annual_k_of n))
 
 -- function: L is what |ΣD| exceeds Nσ by; none, or one that T covers
-unfoldable pub function_of : ℕ → ℤ → ℤ → ℤ → Bool
-function_of n sum q σ =
+unfoldable pub function_holds_of : ℕ → ℤ → ℤ → ℤ → Bool
+function_holds_of n sum q σ =
     let l : ℤ = pos (nat_abs sum) -ℤ pos n *ℤ σ in
     le_z l (pos 0) || le_z (pos (n - 1) *ℤ (l *ℤ l) *ℤ pos 1000000) (pos (t_of n * t_of n) *ℤ q)
 
@@ -46,5 +46,5 @@ test_of edition q l ps =
     else record {
       refusal = 0;
       variability = annual_varied_of (length ps) (q_of ds) q.uncertainty;
-      function = function_of (length ps) (total ds) (q_of ds) q.uncertainty;
+      function = function_holds_of (length ps) (deviations_total ds) (q_of ds) q.uncertainty;
     })

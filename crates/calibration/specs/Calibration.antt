@@ -5,15 +5,15 @@ use Rattle.std.specs.Int.Signed.{le_z, lt_z}
 use Rattle.charts.specs.Rounding.{near_of}
 use Rattle.calibration.specs.Pairs.{Between, between_of}
 use Rattle.calibration.specs.Conditions.{standard_of}
-use Rattle.calibration.specs.declared.Actual.{Actual}
-use Rattle.calibration.specs.declared.Standard.{Standard}
-use Rattle.calibration.specs.declared.Conditions.{Conditions}
-use Rattle.calibration.specs.declared.Pair.{Pair}
-use Rattle.calibration.specs.declared.Requirements.{Requirements}
-use Rattle.calibration.specs.declared.Line.{Line}
-use Rattle.calibration.specs.declared.Sums.{Sums}
-use Rattle.calibration.specs.declared.Span.{Span}
-use Rattle.calibration.specs.declared.Residuals.{Residuals}
+use Rattle.calibration.specs.declared.conditions.Actual.{Actual}
+use Rattle.calibration.specs.declared.conditions.Standard.{Standard}
+use Rattle.calibration.specs.declared.conditions.Conditions.{Conditions}
+use Rattle.calibration.specs.declared.pairs.Pair.{Pair}
+use Rattle.calibration.specs.declared.pairs.Requirements.{Requirements}
+use Rattle.calibration.specs.declared.line.Line.{Line}
+use Rattle.calibration.specs.declared.regression.Sums.{Sums}
+use Rattle.calibration.specs.declared.regression.Span.{Span}
+use Rattle.calibration.specs.declared.residuals.Residuals.{Residuals}
 pub use Rattle.calibration.specs.Outcomes.{Fitted, refused_fit}
 
 -- ---- sums over a list of pairs, oldest first
@@ -150,22 +150,22 @@ top_of edition limit most =
     else share_of edition (pos 110) most.0
 
 -- ΣD and ΣD²
-abbrev pub total : List ℤ → ℤ
-total ds = ∑ (λ (d : ℤ). d) ds
+abbrev pub deviations_total : List ℤ → ℤ
+deviations_total ds = ∑ (λ (d : ℤ). d) ds
 
-abbrev pub squares : List ℤ → ℤ
-squares ds = ∑ (λ (d : ℤ). d *ℤ d) ds
+abbrev pub deviations_squared : List ℤ → ℤ
+deviations_squared ds = ∑ (λ (d : ℤ). d *ℤ d) ds
 
 -- Q = NΣD² - (ΣD)²
 unfoldable pub q_of : List ℤ → ℤ
-q_of ds = pos (length ds) *ℤ squares ds -ℤ total ds *ℤ total ds
+q_of ds = pos (length ds) *ℤ deviations_squared ds -ℤ deviations_total ds *ℤ deviations_total ds
 
 -- max c, ΣD, ΣD²
 unfoldable pub residuals_of : ℕ → ℤ → Line → List Pair → Residuals
 residuals_of edition reference l ps = record {
   most = (span_of (map (c_of edition reference l) ps)).high;
-  sum = total (deviations_of edition reference l ps);
-  squares = squares (deviations_of edition reference l ps);
+  sum = deviations_total (deviations_of edition reference l ps);
+  squares = deviations_squared (deviations_of edition reference l ps);
 }
 
 -- ---- the verdict

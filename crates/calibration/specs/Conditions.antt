@@ -1,9 +1,9 @@
 -- Paper 01, 'Standard conditions (formula 20)', and paper 02, C-12: each factor is rounded by the edition.
 use Rattle.std.specs.Prelude.{ℕ, ℤ, pos, ◌+ℤ◌, ◌-ℤ◌, ◌*ℤ◌}
 use Rattle.charts.specs.Rounding.{near_of}
-use Rattle.calibration.specs.declared.Actual.{Actual}
-use Rattle.calibration.specs.declared.Standard.{Standard}
-use Rattle.calibration.specs.declared.Conditions.{Conditions}
+use Rattle.calibration.specs.declared.conditions.Actual.{Actual}
+use Rattle.calibration.specs.declared.conditions.Standard.{Standard}
+use Rattle.calibration.specs.declared.conditions.Conditions.{Conditions}
 
 -- one factor n/d of formula 20, rounded
 abbrev pub times_of : ℕ → ℤ → ℤ → ℤ → ℤ

@@ -4,9 +4,4 @@ pub mod Outcomes
 pub mod Calibration
 pub mod Annual
 pub mod LentList
-pub mod PairLaws
-pub mod CodeLaws
-pub mod ListLaws
-pub mod SpanLaws
-pub mod DispersionLaws
-pub mod ConditionLaws
+pub mod InCode

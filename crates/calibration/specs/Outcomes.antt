@@ -3,10 +3,10 @@
 use Rattle.std.specs.Prelude.{Bool, false, ℕ, pos, Result, Ok, Err}
 use Rattle.refusals.specs.declared.Refusal.{Refusal}
 use Rattle.refusals.specs.Rows.{number_of}
-use Rattle.calibration.specs.declared.Standard.{Standard}
-use Rattle.calibration.specs.declared.Line.{Line}
-use Rattle.calibration.specs.declared.Figures.{Figures}
-use Rattle.calibration.specs.declared.Verdicts.{Verdicts}
+use Rattle.calibration.specs.declared.conditions.Standard.{Standard}
+use Rattle.calibration.specs.declared.line.Line.{Line}
+use Rattle.calibration.specs.declared.fitting.Figures.{Figures}
+use Rattle.calibration.specs.declared.testing.Verdicts.{Verdicts}
 
 -- a refusal, or the verdict, the function, its top and N
 pub record Fitted : Type 0 where

@@ -2,9 +2,9 @@
 use Rattle.std.specs.Prelude.{Bool, ◌&&◌, List, [], ◌∷◌, ℤ, pos, neg_ℤ, ◌≤ℤ◌}
 use Rattle.std.specs.Int.Signed.{le_z}
 use Rattle.charts.specs.Tests.{Answers, answers_le_z, answers_and, answers_as}
-use Rattle.calibration.specs.declared.Conditions.{Conditions}
-use Rattle.calibration.specs.declared.Pair.{Pair}
-use Rattle.calibration.specs.declared.Requirements.{Requirements}
+use Rattle.calibration.specs.declared.conditions.Conditions.{Conditions}
+use Rattle.calibration.specs.declared.pairs.Pair.{Pair}
+use Rattle.calibration.specs.declared.pairs.Requirements.{Requirements}
 
 -- a ≤ z ≤ b
 pub record Between (a b z : ℤ) : Type 0 where

@@ -7,7 +7,7 @@ use Rattle.charts.proofs.StandingLaws.{stands_from, run_length, run_some, run_th
 use Rattle.charts.specs.Sums.{added}
 use Rattle.charts.specs.Charts.{rising_term, falling_term, drift_limit, precision_limit, over, alarms_of, blank, reset_of, applied_of}
 use Rattle.charts.specs.Runs.{Alarm, rising, falling, precision, RunOver, drift_term, terms, limit_of, Stands}
-use Rattle.charts.specs.ChartLaws.{Reading, differences, after_readings, sum_of, alarm_of, Charted}
+use Rattle.charts.specs.Readings.{Reading, differences, after_readings, sum_of, alarm_of, Charted}
 use Rattle.charts.specs.RunLaws.{summed, Shows, shows, over_answers}
 use Rattle.charts.specs.declared.Sum.{Sum}
 use Rattle.charts.specs.declared.Chart.{Chart}

@@ -1,5 +1,4 @@
 pub mod RoundingLaws
-pub mod ApartLaws
 pub mod RoundingCases
 pub mod StandingLaws
 pub mod ChartLaws

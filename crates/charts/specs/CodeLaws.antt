@@ -1,11 +1,11 @@
 -- The sums of a chart as the code works them out, unsigned: x is the difference d raised by b, so that it is not negative.
-use Rattle.std.specs.Prelude.{◌≡◌, refl, ℕ, ◌+◌, ◌-◌, ◌*◌, ◌≤◌, ◌<◌, ℤ, negsuc, neg_ℤ, ◌+ℤ◌, ◌-ℤ◌, ◌*ℤ◌}
+use Rattle.std.specs.Prelude.{◌≡◌, ℕ, ◌+◌, ◌-◌, ◌*◌, ◌≤◌, ◌<◌, ℤ, neg_ℤ, ◌+ℤ◌, ◌-ℤ◌, ◌*ℤ◌}
 use Rattle.std.proofs.Math.Path.{ap}
 use Rattle.std.proofs.Common.{◌∙◌, arith}
 use Rattle.std.proofs.Math.IntN.{pos, nat_abs}
 use Rattle.std.specs.Int.{abs_diff}
 use Rattle.std.specs.Int.Signed.{lt_z}
-use Rattle.charts.specs.Integers.{sum, diff, prod, one_zero, abs_ud, up_neg, dn_neg, ud_eq, ud_le, ud_lt, eq_ud, le_lt_z, lt_lt_z}
+use Rattle.charts.specs.Integers.{square, sum, diff, prod, one_zero, abs_ud, up_neg, dn_neg, ud_eq, ud_le, ud_lt, eq_ud, le_lt_z, lt_lt_z}
 use Rattle.charts.specs.Tests.{if_yes, if_no}
 use Rattle.charts.specs.Sums.{empty, added}
 use Rattle.charts.specs.declared.Sum.{Sum}
@@ -44,7 +44,3 @@ module _ (s b x : ℕ) (d : ℤ) (e : pos x ≡ d +ℤ pos b) where
   precision_code y l f =
       let a : nat_abs (d -ℤ l) ≡ abs_diff x y = omega (arith, eq_ud e, eq_ud f, sum d (pos b), sum l (pos b), diff d l, one_zero (d -ℤ l), abs_ud (d -ℤ l)) in
       ap (λ (z : ℤ). pos 10 *ℤ z -ℤ pos (37 * (s * s))) (square (d -ℤ l) ∙ ap (λ (n : ℕ). pos (n * n)) a)
-    where
-      square : (z : ℤ) → z *ℤ z ≡ pos (nat_abs z * nat_abs z)
-      square (pos n) = refl
-      square (negsuc n) = refl

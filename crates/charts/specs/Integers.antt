@@ -1,7 +1,7 @@
 -- Integers for `omega`, which reads natural numbers only: z is `up z - dn z`, its part above 0 less its part below 0, one of them 0.
 -- A fact of ℤ becomes one of these parts (`eq_ud`, `le_ud`, `lt_ud`), and a goal of ℤ follows from one (`ud_eq`, `ud_le`, `ud_lt`): the set `ints` has them all.
 -- Beside it `omega` wants a fact for each operation in sight, at its operands: `sum a b`, `diff a b`, `prod a b`.
-use Rattle.std.specs.Prelude.{◌≡◌, refl, Bool, true, false, not, cond, ℕ, zero, suc, ◌+◌, ◌-◌, ◌*◌, ◌^◌, ◌≤◌, ◌<◌, min, ◌⊎◌, T, ltb, ℤ, pos, negsuc, neg_ℤ, nat_abs, ◌+ℤ◌, ◌-ℤ◌, ◌*ℤ◌, ◌≤ℤ◌, ◌<ℤ◌}
+use Rattle.std.specs.Prelude.{◌≡◌, refl, Bool, true, false, not, cond, ℕ, zero, suc, ◌+◌, ◌-◌, ◌*◌, ◌^◌, ◌≤◌, ◌<◌, min, T, ltb, ℤ, pos, negsuc, neg_ℤ, nat_abs, ◌+ℤ◌, ◌-ℤ◌, ◌*ℤ◌, ◌≤ℤ◌, ◌<ℤ◌}
 use Rattle.std.proofs.Common.{sym, ap, ◌∙◌, subst, arith, inl, inr, leb-false, mul-le-mul_left, ltb→lt, nltb→le, lt→ltb, le→leb, leb→le}
 use Rattle.std.proofs.Math.IntN.{sub_ℕ}
 use Rattle.std.specs.Int.Signed.{mag, lt_z, le_z, <ℤ_irrefl, <ℤ-≤ℤ_trans, lt_z_yes, le_z_yes}
@@ -69,6 +69,11 @@ dn_prod (negsuc a) (negsuc b) = omega arith
 pub prod : (a b : ℤ) → (up (a *ℤ b) ≡ up a * up b + dn a * dn b) × (dn (a *ℤ b) ≡ up a * dn b + dn a * up b)
 prod a b = (up_prod a b, dn_prod a b)
 
+-- a square is that of the size
+pub square : (z : ℤ) → z *ℤ z ≡ pos (nat_abs z * nat_abs z)
+square (pos n) = refl
+square (negsuc n) = refl
+
 -- ---- equations and orders, to the parts and back
 pub eq_ud : {a b : ℤ} → a ≡ b → up a + dn b ≡ dn a + up b
 eq_ud {a} {b} e = omega (arith, ap up e, ap dn e)
@@ -114,20 +119,11 @@ pub +ℤ-distrib-* : (a b c : ℤ) → (a +ℤ b) *ℤ c ≡ a *ℤ c +ℤ b *�
 +ℤ-distrib-* a b c = ud_eq (omega (arith, prod (a +ℤ b) c, prod a c, prod b c, sum (a *ℤ c) (b *ℤ c), ap (λ (n : ℕ). up c * n) (sum a b), ap (λ (n : ℕ). dn c * n) (sum a b)))
 
 -- ---- order laws
-pub ≤ℤ-trans : {a b c : ℤ} → a ≤ℤ b → b ≤ℤ c → a ≤ℤ c
-≤ℤ-trans h k = omega (arith, le_ud, ud_le)
-
 pub ≤ℤ-antisymm : {a b : ℤ} → a ≤ℤ b → b ≤ℤ a → a ≡ b
 ≤ℤ-antisymm h k = ud_eq (omega (arith, le_ud))
 
-pub ≤ℤ-<ℤ-trans : {a b c : ℤ} → a ≤ℤ b → b <ℤ c → a <ℤ c
-≤ℤ-<ℤ-trans h k = omega (arith, le_ud, lt_ud, ud_lt)
-
 pub +ℤ-mono : {a b c d : ℤ} → a ≤ℤ b → c ≤ℤ d → (a +ℤ c) ≤ℤ (b +ℤ d)
 +ℤ-mono {a} {b} {c} {d} h k = omega (arith, le_ud, ud_le, sum a c, sum b d)
-
-pub +ℤ-cancel-≤ : (a : ℤ) {b c : ℤ} → (a +ℤ b) ≤ℤ (a +ℤ c) → b ≤ℤ c
-+ℤ-cancel-≤ a {b} {c} h = ud_le (omega (arith, le_ud h, sum a b, sum a c))
 
 -- ---- bounds by the size
 pub abs_sum : (a b : ℤ) → nat_abs (a +ℤ b) ≤ nat_abs a + nat_abs b
@@ -146,19 +142,6 @@ mag_abs (negsuc n) = omega arith
 -- that a result fits is a bound on its size
 pub abs_sfits : {w : Width} {z : ℤ} → nat_abs z < 2 ^ hbits w → SFits w z
 abs_sfits {w} {z} h = record { sfits = omega (arith, mag_abs z) }
-
-pub sfits_abs : {w : Width} {z : ℤ} → SFits w z → nat_abs z ≤ 2 ^ hbits w
-sfits_abs {z = pos n} f = omega (arith, f.sfits)
-sfits_abs {z = negsuc n} f = omega (arith, f.sfits)
-
--- the same by the parts: exact at both ends
-pub ud_sfits : {w : Width} {z : ℤ} → (up z < 2 ^ hbits w) × (dn z ≤ 2 ^ hbits w) → SFits w z
-ud_sfits {z = pos n} h = record { sfits = h.0 }
-ud_sfits {z = negsuc n} h = record { sfits = h.1 }
-
-pub sfits_ud : {w : Width} {z : ℤ} → SFits w z → (up z < 2 ^ hbits w) × (dn z ≤ 2 ^ hbits w)
-sfits_ud {z = pos n} f = (f.sfits, omega arith)
-sfits_ud {z = negsuc n} f = (omega (arith, f.sfits), f.sfits)
 
 pub ruleset ints = (le_ud, lt_ud, eq_ud, ud_le, ud_lt, ud_eq, arith)
 
@@ -182,20 +165,3 @@ le_le_z {a} {b} h = is_true (le_z a b) h.le
 
 pub lt_le_z : {a b : ℤ} → b <ℤ a → le_z a b ≡ false
 lt_le_z {a} {b} h = is_false (le_z a b) (λ t. <ℤ_irrefl (<ℤ-≤ℤ_trans h (le_z_yes {a = a} {b = b} t)))
-
--- ---- the order is total; a product by a natural keeps it
-split : {a b : ℤ} (t : Bool) → le_z a b ≡ t → (a ≤ℤ b) ⊎ (b <ℤ a)
-split {a} {b} true e = inl (record { le = subst T (sym e) tt })
-split {a} {b} false e = inr (nle a b e)
-  where
-    nle : (a b : ℤ) → le_z a b ≡ false → b <ℤ a
-    nle (pos a) (pos b) e = record { lt = lt→ltb b a (leb-false a b e) }
-    nle (pos a) (negsuc b) e = record { lt = tt }
-    nle (negsuc a) (pos b) e = absurd (subst T e tt)
-    nle (negsuc a) (negsuc b) e = record { lt = lt→ltb a b (leb-false b a e) }
-
-pub ≤ℤ-total : (a b : ℤ) → (a ≤ℤ b) ⊎ (b <ℤ a)
-≤ℤ-total a b = split (le_z a b) refl
-
-pub *ℤ-mono : (k : ℕ) {a b : ℤ} → a ≤ℤ b → (pos k *ℤ a) ≤ℤ (pos k *ℤ b)
-*ℤ-mono k {a} {b} h = ud_le (omega (arith, prod (pos k) a, prod (pos k) b, mul-le-mul_left k (le_ud h)))

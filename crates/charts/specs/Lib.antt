@@ -1,13 +1,14 @@
 pub mod Integers
 pub mod SignedLocals
 pub mod Tests
+pub mod ListLaws
 pub mod Rounding
 pub mod Division
 pub mod Sums
 pub mod Charts
 pub mod Runs
 pub mod RunLaws
-pub mod ChartLaws
+pub mod Readings
 pub mod Soundness
 pub mod SoundnessLaws
 pub mod CodeLaws

@@ -1,15 +1,14 @@
 -- A signed local holds bits, and each need of a signed operation speaks of what the machine reads back from them, `to_z w b`.
 -- `Loc w` is such a local: its bits, the number that they stand for, and that it fits. The code's steps are written again on these, `add A B f` for `a + b`:
 -- the bits are those of the machine's result by computation, and the number is the sum. `add_need A B f` is what the operation asks.
-use Rattle.std.specs.Prelude.{◌≡◌, refl, Bool, true, false, not, ℕ, zero, suc, ◌/◌, ◌^◌, ◌≤◌, ◌<◌, T, ℤ, pos, negsuc, neg_ℤ, nat_abs, ◌+ℤ◌, ◌-ℤ◌, ◌*ℤ◌, ◌≤ℤ◌, ◌<ℤ◌}
-use Rattle.std.proofs.Common.{sym, ap, ◌∙◌, subst, ⊎_elim, arith, eq-zero-or-pos, div-le_self, lt→ltb, leb-false, to_z-of_z}
+use Rattle.std.specs.Prelude.{◌≡◌, true, false, ℕ, zero, suc, ◌/◌, ◌^◌, ◌≤◌, ◌<◌, T, ℤ, pos, negsuc, neg_ℤ, nat_abs, ◌+ℤ◌, ◌-ℤ◌, ◌*ℤ◌, ◌≤ℤ◌, ◌<ℤ◌}
+use Rattle.std.proofs.Common.{sym, ap, ◌∙◌, subst, arith, div-le_self, lt→ltb, leb-false, to_z-of_z}
 use Rattle.std.proofs.Math.IntN.{+ℤ_idl}
-use Rattle.std.specs.Int.Signed.{mag, lt_z, le_z, quot_z, rem_z, mag_rem, non_neg, yes_non_neg, lt_z_yes, lt_z_no, le_z_yes}
-use Rattle.std.specs.Int.{Width, w8, w16, w32, w64, w128}
-use mir.Val.{SFits, Fits, to_z, of_z, hbits}
+use Rattle.std.specs.Int.Signed.{mag, lt_z, le_z, quot_z, rem_z, mag_rem, le_z_yes}
+use Rattle.std.specs.Int.{Width}
+use mir.Val.{SFits, to_z, of_z, hbits}
 use Rattle.std.proofs.Math.Facts.{to_z_pos}
 use mir.ValLaws.{sfits_le}
-use Rattle.charts.specs.Integers.{up, dn, lt_ud}
 
 pub record Loc (w : Width) : Type 0 where
   pub bits : ℕ
@@ -65,18 +64,6 @@ module _ {w : Width} (A B : Loc w) where
   le_flag = ap (λ (v : ℤ). le_z v (to_z w B.bits)) A.reads ∙ ap (le_z A.num) B.reads
 
 -- ---- the divisor is above 0: the quotient and the remainder fit because the dividend does
-zero_reads : (w : Width) → to_z w 0 ≡ pos 0
-zero_reads w8 = refl
-zero_reads w16 = refl
-zero_reads w32 = refl
-zero_reads w64 = refl
-zero_reads w128 = refl
-
-pub bits_pos : {w : Width} (B : Loc w) → pos 0 <ℤ B.num → 0 < B.bits
-bits_pos {w} B h = ⊎_elim
-    (λ e. let g : pos 0 ≡ B.num = sym (zero_reads w) ∙ ap (to_z w) (sym e) ∙ B.reads in absurd (omega (arith, lt_ud h, ap up g, ap dn g)))
-    (λ p. p) (eq-zero-or-pos B.bits)
-
 mag_neg : (r : ℕ) {a : ℕ} → r ≤ suc a → mag (neg_ℤ (pos r)) ≤ a
 mag_neg zero h = omega arith
 mag_neg (suc r) h = omega arith
@@ -94,10 +81,6 @@ pub rem_fits : {w : Width} {x : ℤ} (y : ℤ) → SFits w x → SFits w (rem_z 
 rem_fits {w} {x} y f = sfits_le (mag_rem x y) f
 
 module _ {w : Width} (A B : Loc w) (h : pos 0 <ℤ B.num) where
-  -- what `/` and `%` ask, both the same
-  pub div_need : (0 < B.bits) × SFits w (quot_z (to_z w A.bits) (to_z w B.bits))
-  div_need = (bits_pos B h, op_need quot_z A B (quot_fits h A.fit))
-
   abbrev pub quot : Loc w
   quot = op quot_z A B (quot_fits h A.fit)
 
@@ -112,10 +95,6 @@ module _ {w : Width} (w' : Width) (A : Loc w) where
   pub cast_need : SFits w' A.num → SFits w' (to_z w A.bits)
   cast_need f = subst (SFits w') (sym A.reads) f
 
-  -- to an unsigned type: the value is `nat_abs (to_z w b)`
-  pub cast_u_need : pos 0 ≤ℤ A.num → Fits w' (nat_abs A.num) → T (non_neg (to_z w A.bits)) × Fits w' (nat_abs (to_z w A.bits))
-  cast_u_need h f = (subst (λ (z : ℤ). T (non_neg z)) (sym A.reads) (yes_non_neg h), subst (λ (z : ℤ). Fits w' (nat_abs z)) (sym A.reads) f)
-
 pub cast_u : {w : Width} (A : Loc w) → nat_abs (to_z w A.bits) ≡ nat_abs A.num
 cast_u A = ap nat_abs A.reads
 
@@ -127,24 +106,11 @@ nle (negsuc a) (negsuc b) e = record { lt = lt→ltb a b (leb-false b a e) }
 
 -- ---- a signed test in the code, as a fact: `lt_true A B c.if-z-lt0.true`
 module _ {w : Width} (A B : Loc w) where
-  pub lt_true : lt_z (to_z w A.bits) (to_z w B.bits) ≡ true → A.num <ℤ B.num
-  lt_true e = lt_z_yes (subst T (sym (sym (lt_flag A B) ∙ e)) tt)
-
-  pub lt_false : lt_z (to_z w A.bits) (to_z w B.bits) ≡ false → B.num ≤ℤ A.num
-  lt_false e = lt_z_no (subst (λ (t : Bool). T (not t)) (sym (sym (lt_flag A B) ∙ e)) tt)
-
   pub le_true : le_z (to_z w A.bits) (to_z w B.bits) ≡ true → A.num ≤ℤ B.num
   le_true e = le_z_yes (subst T (sym (sym (le_flag A B) ∙ e)) tt)
 
   pub le_false : le_z (to_z w A.bits) (to_z w B.bits) ≡ false → B.num <ℤ A.num
   le_false e = nle A.num B.num (sym (le_flag A B) ∙ e)
-
--- ---- `==` and `!=` on signed numbers are facts of the bits
-pub eq_true : {w : Width} (A B : Loc w) → A.bits ≡ B.bits → A.num ≡ B.num
-eq_true {w} A B e = sym A.reads ∙ ap (to_z w) e ∙ B.reads
-
-pub eq_false : (w : Width) {y z : ℤ} → (of_z w y ≡ of_z w z → ⊥) → y ≡ z → ⊥
-eq_false w h e = h (ap (of_z w) e)
 
 -- `-x` is `0 - x`
 pub zero_minus : (z : ℤ) → pos 0 -ℤ z ≡ neg_ℤ z

@@ -1,8 +1,8 @@
 -- A reset makes a chart sound, and a reading keeps it so while fewer than 100,000 have been applied.
-use Rattle.std.specs.Prelude.{◌≡◌, refl, ℕ, ◌+◌, ◌*◌, ◌≤◌, ◌<◌, T, ℤ, pos, negsuc, neg_ℤ, nat_abs, ◌+ℤ◌, ◌-ℤ◌, ◌*ℤ◌, ◌≤ℤ◌}
+use Rattle.std.specs.Prelude.{◌≡◌, ℕ, ◌+◌, ◌*◌, ◌≤◌, ◌<◌, T, ℤ, pos, neg_ℤ, nat_abs, ◌+ℤ◌, ◌-ℤ◌, ◌*ℤ◌, ◌≤ℤ◌}
 use Rattle.std.proofs.Common.{arith, mul-le-mul}
 use Rattle.std.specs.Int.Signed.{lt_z, lt_z_yes}
-use Rattle.charts.specs.Integers.{ints, sum, diff, prod, one_zero, abs_ud, up_neg, dn_neg, lt_ud, le_ud, ud_le}
+use Rattle.charts.specs.Integers.{square, ints, sum, diff, prod, one_zero, abs_ud, up_neg, dn_neg, lt_ud, le_ud, ud_le}
 use Rattle.charts.specs.Tests.{if_all}
 use Rattle.charts.specs.Sums.{empty, added}
 use Rattle.charts.specs.Charts.{rising_term, falling_term, precision_term, reset_of, applied_of, blank}
@@ -44,10 +44,6 @@ module _ (s : ℕ) {d : ℤ} (D : Ranged d) where
       let q : nat_abs z * nat_abs z ≤ 1200000 * 1200000 = mul-le-mul {n₂ = 1200000} {m₂ = 1200000} b b in
       let e : z *ℤ z ≡ pos (nat_abs z * nat_abs z) = square z in
       rw e (ud_le (omega (arith, diff (pos (10 * (nat_abs z * nat_abs z))) (pos (37 * (s * s))))))
-    where
-      square : (z : ℤ) → z *ℤ z ≡ pos (nat_abs z * nat_abs z)
-      square (pos n) = refl
-      square (negsuc n) = refl
 
 zero_ranged : Ranged (pos 0)
 zero_ranged = record { low = omega ints; high = omega ints }

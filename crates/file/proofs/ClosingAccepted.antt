@@ -11,16 +11,16 @@ use Rattle.std.specs.Int.Signed.{mag, le_z, ≤ℤ_refl}
 use Rattle.charts.specs.Tests.{if_yes, if_all}
 use Rattle.charts.specs.Integers.{le_le_z, abs_sfits}
 use Rattle.calibration.specs.Pairs.{RequirementsRanged, ZRanged, z_ranged_of, between_answers}
-use Rattle.calibration.specs.PairLaws.{between_fits}
+use Rattle.calibration.proofs.RangeLaws.{between_fits}
 use Rattle.calibration.proofs.FitRange.{T_true, fitted_ranged}
 use Rattle.calibration.proofs.ResidualLaws.{top_bound, residuals_ranged}
 use Rattle.calibration.proofs.VerdictLaws.{count_above}
 use Rattle.calibration.specs.Calibration.{LineRanged, count_fits, divisor_of, fit_from, fit_of, flat_of, line_fits, residuals_of, slope_of, slope_ranged_of, some_beyond, sums_of, top_of}
 use Rattle.calibration.specs.Outcomes.{Fitted, Tested}
-use Rattle.calibration.specs.declared.Line.{Line}
-use Rattle.calibration.specs.declared.Pair.{Pair}
-use Rattle.calibration.specs.declared.Requirements.{Requirements}
-use Rattle.calibration.specs.declared.Standard.{Standard}
+use Rattle.calibration.specs.declared.line.Line.{Line}
+use Rattle.calibration.specs.declared.pairs.Pair.{Pair}
+use Rattle.calibration.specs.declared.pairs.Requirements.{Requirements}
+use Rattle.calibration.specs.declared.conditions.Standard.{Standard}
 use Rattle.records.specs.Bytes.{le16, le32, all_zero, bytes16, bytes32}
 use Rattle.records.specs.Record.{Record, kind, mark, minute, signed32, signed64, field, long_field, formed_of, plain_of, mark_limit, fields_end, ranged_of, z_of}
 use Rattle.records.specs.Kinds.{sets}

@@ -9,7 +9,7 @@ use Rattle.std.proofs.Math.Dec.{eqb, ltb, nltb→le, eqb→eq}
 use Rattle.std.proofs.Math.Seq.{set-append_seam}
 use Rattle.charts.specs.Tests.{if_yes, if_no}
 use Rattle.charts.specs.Charts.{blank, reset_of, applied_of}
-use Rattle.charts.specs.ChartLaws.{Reading, differences, after_readings}
+use Rattle.charts.specs.Readings.{Reading, differences, after_readings}
 use Rattle.charts.proofs.ChartLaws.{charted}
 use Rattle.charts.specs.declared.Chart.{Chart}
 use Rattle.records.specs.Lists.{those_since}

@@ -5,7 +5,7 @@ use Rattle.std.proofs.Math.Option.{Option, none, some}
 use Rattle.charts.specs.Tests.{Answers, answers_not, answers_and, answers_le, answers_as}
 use Rattle.charts.specs.Charts.{blank, reset_of, alarms_of}
 use Rattle.charts.specs.Runs.{Alarm, rising, falling, precision, Stands}
-use Rattle.charts.specs.ChartLaws.{Reading, after_readings, alarm_of}
+use Rattle.charts.specs.Readings.{Reading, after_readings, alarm_of}
 use Rattle.charts.proofs.ChartLaws.{alarms_after, blank_answers}
 use Rattle.charts.specs.declared.Alarms.{Alarms}
 use Rattle.records.specs.Kinds.{Point, at_zero, at_span, deviation_of, Calibration}

@@ -10,10 +10,10 @@ use Rattle.calibration.specs.Pairs.{AllRanged, RequirementsRanged, ZRanged}
 use Rattle.calibration.specs.Calibration.{count_fits, refused_fit, fit_of}
 use Rattle.calibration.proofs.VerdictLaws.{count_unfit}
 use Rattle.calibration.specs.LentList.{fit_list_of}
-use Rattle.calibration.proofs.LentListLaws.{list_fits}
-use Rattle.calibration.specs.declared.Basis.{Basis}
+use Rattle.calibration.proofs.FitListLaws.{list_fits}
+use Rattle.calibration.specs.declared.pairs.Basis.{Basis}
 use Rattle.calibration.specs.Outcomes.{Fitted}
-use Rattle.calibration.specs.declared.Pair.{Pair}
+use Rattle.calibration.specs.declared.pairs.Pair.{Pair}
 use Rattle.records.specs.Table.{Facts, days_fit, pair_of_waiting, calibration_of}
 use Rattle.records.specs.State.{facts_of}
 use Rattle.records.specs.Soundness.{Sound, SettingSound}

@@ -1,12 +1,11 @@
 -- Signed numbers that a call gives, as the machine reads them back from their bits.
 use mathlib.Core.Path.{◌≡◌, sym, ap, ◌∙◌, subst}
-use mathlib.Core.Bool.{Bool}
 use Prim.Native.Nat.{ℕ, ◌^◌, ◌<◌}
 use native.Mathlib.Omega.{arith}
 use lib.Dec.{T, eqb}
 use lib.IntN.{ℤ, pos, negsuc, nat_abs, ◌-ℤ◌}
 use lib.Signed.{mag, non_neg, yes_non_neg}
-use mir.Syntax.{Width, w32, w64}
+use mir.Syntax.{Width}
 use mir.Val.{Fits, SFits, to_z, of_z, hbits, bits}
 use mir.Facts.{to_z-of_z, to_z_pos}
 use Rattle.std.proofs.Math.Facts.{eqb_yes, yes_eqb, and_yes, yes_and}
@@ -15,23 +14,13 @@ use Rattle.std.specs.Int.Signed.{le_z, le_z_yes}
 use Rattle.charts.specs.Tests.{same_answer}
 use Rattle.charts.specs.Integers.{diff, le_ud, ud_le, ud_eq, ≤ℤ-antisymm}
 use Rattle.charts.specs.SignedLocals.{result}
-use Rattle.calibration.specs.Pairs.{Between, between_of}
-use Rattle.calibration.specs.PairLaws.{wide_need, wide_between}
-use Rattle.calibration.specs.PairLaws.{between_size}
+use Rattle.calibration.specs.Pairs.{Between}
+use Rattle.calibration.proofs.RangeLaws.{between_size}
 use Rattle.records.specs.Table.{sameℤ}
 
 -- the result of a call: its `ok` and its `ensures`
 pub given : (w : Width) {x z : ℤ} → mag x < 2 ^ hbits w → x ≡ z → to_z w (of_z w x) ≡ z
 given w ok e = to_z-of_z (record { sfits = ok }) ∙ e
-
--- and as i64
-pub given_wide : (x : ℤ) → mag x < 2 ^ hbits w32 → SFits w64 (to_z w32 (of_z w32 x))
-given_wide x ok = wide_need {z = x} (record { sfits = ok })
-
--- a range test of that, taken as i64
-pub given_between : (a b : ℤ) {x y z : ℤ} {r : Bool} → mag x < 2 ^ hbits w32 → x ≡ z → y ≡ to_z w32 (of_z w32 x) → r ≡ between_of a b (to_z w64 (of_z w64 y)) → r ≡ between_of a b z
-given_between a b ok e f h =
-    wide_between a b (record { sfits = ok }) (h ∙ ap (λ (v : ℤ). between_of a b (to_z w64 (of_z w64 v))) f) ∙ ap (between_of a b) e
 
 -- ---- the same number
 

@@ -11,7 +11,7 @@ use Rattle.charts.specs.declared.Chart.{Chart}
 use Rattle.calibration.specs.Pairs.{AllRanged}
 use Rattle.calibration.specs.Calibration.{LineRanged}
 use Rattle.calibration.proofs.FitRange.{fitted_ranged}
-use Rattle.calibration.specs.PairLaws.{between_abs}
+use Rattle.calibration.proofs.RangeLaws.{between_abs}
 use Rattle.records.specs.Record.{Record, kind, mark, minute, setting_ranged, setting_of, difference_of, waiting_of, function_of, z_of}
 use Rattle.records.specs.RecordLaws.{WaitingFields, setting_fields, setting_ranged_lem, reading_fields, reading_ranged_lem, waiting_fields, waiting_ranged_lem, z_field, z_ranged}
 use Rattle.records.specs.Kinds.{Point, at_zero, at_span, deviation_of, reads, resets, sets, pairs, empties, calibrates, passes, counts, exceeds, outside_by, line_of}

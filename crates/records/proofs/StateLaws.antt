@@ -5,7 +5,7 @@ use lib.ListN.{length, take}
 use mir.Val.{Val}
 use denote.Laws.{Is}
 use denote.Struct.Declared.{row}
-use Rattle.calibration.specs.declared.Pair.{Pair}
+use Rattle.calibration.specs.declared.pairs.Pair.{Pair}
 use Rattle.records.specs.ListLaws.{map_take}
 use Rattle.records.specs.Table.{pair_of_waiting}
 use Rattle.records.specs.declared.state.State.{State}

@@ -8,9 +8,9 @@ use Rattle.std.proofs.Math.Facts.{and_yes, or_no, leb_yes, ltb_no}
 use Rattle.charts.specs.Tests.{if_all}
 use Rattle.calibration.specs.Calibration.{count_fits, divisor_of, fit_from, fit_of, flat_of, line_fits, refused_fit, slope_of, slope_ranged_of, some_beyond, sums_of}
 use Rattle.calibration.specs.Outcomes.{Fitted}
-use Rattle.calibration.specs.declared.Line.{Line}
-use Rattle.calibration.specs.declared.Pair.{Pair}
-use Rattle.calibration.specs.declared.Requirements.{Requirements}
+use Rattle.calibration.specs.declared.line.Line.{Line}
+use Rattle.calibration.specs.declared.pairs.Pair.{Pair}
+use Rattle.calibration.specs.declared.pairs.Requirements.{Requirements}
 use Rattle.records.specs.Record.{Record, kind, mark, minute, formed_of, ranged_of, field, long_field, length_of, coverage_of, z_of, function_of}
 use Rattle.records.specs.Kinds.{response_of, line_of, Calibration}
 use Rattle.records.proofs.SignedLaws.{same_is}

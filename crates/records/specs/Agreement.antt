@@ -3,7 +3,7 @@
 use Rattle.std.specs.Prelude.{◌≡◌, List, [], ◌∷◌, ◌++◌, map, ℕ, ◌-◌, length, replicate, if◌then◌else◌, None, Some}
 use Rattle.std.proofs.Math.Option.{Option, none, some}
 use Rattle.charts.specs.Charts.{blank, reset_of}
-use Rattle.charts.specs.ChartLaws.{Reading, after_readings}
+use Rattle.charts.specs.Readings.{Reading, after_readings}
 use Rattle.charts.specs.declared.Chart.{Chart}
 use Rattle.records.specs.Lists.{since, those}
 use Rattle.records.specs.Record.{difference_of}

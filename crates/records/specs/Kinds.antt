@@ -2,8 +2,8 @@
 use Rattle.std.specs.Prelude.{Option, Bool, false, not, ◌&&◌, ◌||◌, ℕ, ◌*◌, ◌/◌, eqb, ltb, pos, if◌then◌else◌, None, Some}
 use Rattle.std.specs.Int.Signed.{lt_z}
 use Rattle.calibration.specs.Calibration.{value_of}
-use Rattle.calibration.specs.declared.Line.{Line}
-use Rattle.calibration.specs.declared.Standard.{Standard}
+use Rattle.calibration.specs.declared.line.Line.{Line}
+use Rattle.calibration.specs.declared.conditions.Standard.{Standard}
 use Rattle.records.specs.Record.{Record, kind, mark, signal_of, value_conditions}
 use Rattle.records.specs.declared.state.Setting.{Setting}
 use Rattle.records.specs.declared.state.Function.{Function}

@@ -1,9 +1,9 @@
 -- Paper 01, 'Records', and paper 02, C-11: a record is forty bytes. What stands where, which bytes have to be zero, and which ranges the fields have.
 use Rattle.std.specs.Prelude.{Bool, true, ◌&&◌, ◌||◌, List, ℕ, ◌+◌, ◌-◌, ◌*◌, leb, ltb, eqb, ℤ, pos, negsuc, neg_ℤ, nat_abs, ◌-ℤ◌, drop, if◌then◌else◌}
 use Rattle.calibration.specs.Pairs.{between_of, pair_ranged_of, conditions_ranged_of, requirements_ranged_of, z_ranged_of}
-use Rattle.calibration.specs.declared.Conditions.{Conditions}
-use Rattle.calibration.specs.declared.Pair.{Pair}
-use Rattle.calibration.specs.declared.Requirements.{Requirements}
+use Rattle.calibration.specs.declared.conditions.Conditions.{Conditions}
+use Rattle.calibration.specs.declared.pairs.Pair.{Pair}
+use Rattle.calibration.specs.declared.pairs.Requirements.{Requirements}
 use Rattle.records.specs.Bytes.{byte_at, le32, all_zero}
 use Rattle.records.specs.declared.state.Setting.{Setting}
 use Rattle.records.specs.declared.state.Waiting.{Waiting}

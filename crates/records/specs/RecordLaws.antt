@@ -5,7 +5,7 @@ use Rattle.charts.specs.Tests.{Answers, answers_and, answers_le}
 use Rattle.charts.specs.Integers.{diff, le_ud, ud_le}
 use Rattle.charts.specs.Soundness.{Ranged}
 use Rattle.calibration.specs.Pairs.{Between, between_answers, ConditionsRanged, conditions_answers, PairRanged, pair_answers, RequirementsRanged, requirements_answers, ZRanged, z_ranged_of}
-use Rattle.calibration.specs.PairLaws.{between_abs, between_size}
+use Rattle.calibration.proofs.RangeLaws.{between_abs, between_size}
 use Rattle.records.specs.Bytes.{byte_at, all_zero}
 use Rattle.records.specs.Record.{Record, kind, mark, field, mark_limit, fields_end, plain_of, formed_of, requirements_of, difference_of, length_of, coverage_of, pair_of, z_of, signal_of, value_conditions, setting_ranged, reading_ranged, waiting_ranged, value_ranged, ranged_of}
 

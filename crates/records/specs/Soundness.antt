@@ -5,7 +5,7 @@ use Rattle.charts.specs.Tests.{Answers, answers_le, answers_and, answers_as}
 use Rattle.charts.specs.Soundness as C
 use Rattle.calibration.specs.Pairs.{PairRanged, pair_ranged_of, pair_answers, RequirementsRanged, requirements_ranged_of, requirements_answers}
 use Rattle.calibration.specs.Calibration.{LineRanged, line_ranged_of}
-use Rattle.calibration.specs.ConditionLaws.{line_answers}
+use Rattle.calibration.proofs.RangeLaws.{line_answers}
 use Rattle.records.specs.Kinds.{line_of, Calibration}
 use Rattle.records.specs.declared.state.Setting.{Setting}
 use Rattle.records.specs.declared.state.Waiting.{Waiting}

@@ -6,7 +6,7 @@ use Rattle.std.proofs.Math.Option.{Option, none, some}
 use Rattle.std.specs.Int.Signed.{le_z}
 use Rattle.calibration.specs.Calibration.{count_fits, fit_of, refused_fit}
 use Rattle.calibration.specs.Annual.{test_of, refused_test}
-use Rattle.calibration.specs.declared.Pair.{Pair}
+use Rattle.calibration.specs.declared.pairs.Pair.{Pair}
 use Rattle.calibration.specs.Outcomes.{Fitted}
 use Rattle.calibration.specs.Outcomes.{Tested}
 use Rattle.records.specs.Record.{Record, kind, mark, minute, field, long_field, formed_of, ranged_of, length_of, coverage_of, z_of}

@@ -4,29 +4,30 @@ ghost use Rattle.records.specs.Record.{ranged_of, reading_ranged, setting_ranged
 
 use crate::fields;
 
+#[tactic(auto, unfolding(crate::specs::Record::setting_ranged))]
 fn setting_ranged(r: &[u8; 40]) -> bool
     ensures { result ≡ setting_ranged r.now }
 {
     calibration::requirements_ranged(fields::requirements_of(r))
-        & (calibration::between(1, 10000, i64::from(fields::field_at(r, 16)))
-            & (calibration::between(1, 10000, i64::from(fields::field_at(r, 20)))
-                & calibration::between(0, 60, i64::from(fields::field_at(r, 28)))))
+        & (calibration::between(1, 10000, fields::field_at(r, 16))
+            & (calibration::between(1, 10000, fields::field_at(r, 20))
+                & calibration::between(0, 60, fields::field_at(r, 28))))
 }
 
 #[tactic(auto, unfolding(crate::specs::Record::reading_ranged))]
 fn reading_ranged(r: &[u8; 40]) -> bool
     ensures { result ≡ reading_ranged r.now }
 {
-    calibration::between(-400000, 400000, i64::from(fields::field_at(r, 8)))
-        & calibration::between(0, 400000, i64::from(fields::field_at(r, 12)))
+    calibration::between(-400000, 400000, fields::field_at(r, 8))
+        & calibration::between(0, 400000, fields::field_at(r, 12))
 }
 
 #[tactic(auto, unfolding(crate::specs::Record::waiting_ranged))]
 fn waiting_ranged(r: &[u8; 40]) -> bool
     ensures { result ≡ waiting_ranged r.now }
 {
-    calibration::between(30, 1440, i64::from(fields::field_at(r, 8)))
-        & (calibration::between(0, 100, i64::from(fields::field_at(r, 12)))
+    calibration::between(30, 1440, fields::field_at(r, 8))
+        & (calibration::between(0, 100, fields::field_at(r, 12))
             & calibration::pair_ranged(fields::pair_of(r)))
 }
 
@@ -34,7 +35,7 @@ fn waiting_ranged(r: &[u8; 40]) -> bool
 fn value_ranged(r: &[u8; 40]) -> bool
     ensures { result ≡ value_ranged r.now }
 {
-    calibration::between(0, 400000, i64::from(fields::field_at(r, 8)))
+    calibration::between(0, 400000, fields::field_at(r, 8))
         & calibration::conditions_ranged(fields::conditions_at(r, 12))
 }
 

@@ -1,4 +1,4 @@
-use Rattle.calibration.specs.ConditionLaws.{line_answers}
+use Rattle.calibration.proofs.RangeLaws.{line_answers}
 use Rattle.cases.specs.Answered.{yes}
 use Rattle.cases.proofs.calibration_cases.try_annual.Goals as goal
 

@@ -4,7 +4,7 @@ use mir.Syntax.{w32}
 use mir.Val.{to_z, of_z}
 use mir.Facts.{to_z-of_z}
 use Rattle.calibration.specs.Calibration.{LineRanged, value_of}
-use Rattle.calibration.specs.PairLaws.{between_fits}
+use Rattle.calibration.proofs.RangeLaws.{between_fits}
 use Rattle.calibration.proofs.ConditionLaws.{value_fits}
 use Rattle.records.specs.Record.{signal_of, value_conditions}
 use Rattle.records.specs.RecordLaws.{value_fields, ValueFields}

@@ -2,7 +2,7 @@
 use mathlib.Core.Path.{◌≡◌}
 use mir.Syntax.{w32}
 use mir.Val.{to_z, of_z}
-use Rattle.calibration.specs.PairLaws.{between_abs}
+use Rattle.calibration.proofs.RangeLaws.{between_abs}
 use Rattle.records.specs.Record.{field}
 use Rattle.records.specs.RecordLaws.{reading_fields}
 use Rattle.records.proofs.SignedLaws.{given}
