@@ -1,6 +1,7 @@
 pub mod Integers
 pub mod SignedLocals
 pub mod Tests
+pub mod ListLaws
 pub mod Rounding
 pub mod Division
 pub mod Sums
