@@ -7,6 +7,7 @@ use Rattle.std.proofs.Math.IntN.{sub_ℕ}
 use Rattle.std.specs.Int.Signed.{mag, lt_z, le_z, <ℤ_irrefl, <ℤ-≤ℤ_trans, lt_z_yes, le_z_yes}
 use Rattle.std.specs.Int.{Width}
 use mir.Val.{SFits, hbits}
+use Rattle.charts.specs.Tests.{is_true, is_false}
 
 abbrev pub up : ℤ → ℕ
 up (pos n) = n
@@ -146,14 +147,6 @@ abs_sfits {w} {z} h = record { sfits = omega (arith, mag_abs z) }
 pub ruleset ints = (le_ud, lt_ud, eq_ud, ud_le, ud_lt, ud_eq, arith)
 
 -- ---- which way a test of a definition goes
-is_true : (t : Bool) → T t → t ≡ true
-is_true true h = refl
-is_true false h = absurd h
-
-is_false : (t : Bool) → (T t → ⊥) → t ≡ false
-is_false true h = absurd (h tt)
-is_false false h = refl
-
 pub lt_lt_z : {a b : ℤ} → a <ℤ b → lt_z a b ≡ true
 lt_lt_z {a} {b} h = is_true (lt_z a b) h.lt
 

@@ -1,7 +1,7 @@
 -- Tests in definitions, and what they answer. A definition tests by a Bool; a statement asks a question; `Answers` joins the two.
 use Rattle.std.specs.Prelude.{◌≡◌, refl, Bool, true, false, not, ◌&&◌, ℕ, ◌≤◌, ◌<◌, T, leb, ltb, ℤ, ◌≤ℤ◌, ◌<ℤ◌, if◌then◌else◌}
-use Rattle.std.proofs.Common.{ap, T_not, leb→le, le→leb, ltb→lt, lt→ltb}
-use Rattle.std.proofs.lemmas.Bool.{false≢true}
+use Rattle.std.proofs.Common.{sym, subst, ap, T_not, leb→le, le→leb, ltb→lt, lt→ltb}
+pub use Rattle.std.proofs.lemmas.Bool.{and_parts as and_both}
 use Rattle.std.proofs.Math.Dec.{not_T}
 use Rattle.std.specs.Int.Signed.{le_z, lt_z, le_z_yes, lt_z_yes}
 
@@ -17,10 +17,20 @@ pub if_all : {A : Type 0} (P : A → Type 0) (b : Bool) (x y : A) → (T b → P
 if_all P true x y f g = f tt
 if_all P false x y f g = g tt
 
--- both tests are true where the two together are
-pub and_both : (a b : Bool) → (a && b) ≡ true → (a ≡ true) × (b ≡ true)
-and_both true b h = (refl, h)
-and_both false b h = absurd (false≢true h)
+-- Laws go by `T` or by an equation; these take one to the other. The kit has the rest, in std.proofs.lemmas.Bool: `not-false`, `and_parts`, `or_parts`, `eqb-true`.
+pub is_true : (b : Bool) → T b → b ≡ true
+is_true true t = refl
+is_true false t = absurd t
+
+pub is_false : (b : Bool) → (T b → ⊥) → b ≡ false
+is_false true f = absurd (f tt)
+is_false false f = refl
+
+pub sure_of : {b : Bool} → b ≡ true → T b
+sure_of h = subst T (sym h) tt
+
+pub denied_of : {b : Bool} → b ≡ false → T (not b)
+denied_of h = subst (λ (b : Bool). T (not b)) (sym h) tt
 
 -- the test b is true exactly if P holds
 pub record Answers (b : Bool) (P : Type 0) : Type 0 where
@@ -49,6 +59,10 @@ answers_lt_z a b = record { sure = λ t. lt_z_yes t; back = λ h. h.lt }
 -- the same question in other words
 pub answers_as : {b : Bool} {P Q : Type 0} → Answers b P → (P → Q) → (Q → P) → Answers b Q
 answers_as e f g = record { sure = λ t. f (e.sure t); back = λ q. e.back (g q) }
+
+-- what a test answers, where it is true
+pub holds : {b : Bool} {P : Type 0} → Answers b P → b ≡ true → P
+holds e h = e.sure (sure_of h)
 
 -- two tests of one question are the same
 pub same_answer : {a b : Bool} {P : Type 0} → Answers a P → Answers b P → a ≡ b

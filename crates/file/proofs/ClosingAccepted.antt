@@ -1,18 +1,19 @@
 -- A closing that is made is accepted: its bytes give back the figures that were worked out, and no row of the table refuses it.
-use Rattle.std.specs.Prelude.{◌≡◌, Bool, not, ◌&&◌, ◌||◌, List, map, ℕ, ◌+◌, ◌-◌, ◌*◌, ◌/◌, ◌%◌, ◌≤◌, ◌<◌, T, leb, ltb, eqb, ℤ, pos, negsuc, neg_ℤ, nat_abs, length, take, if◌then◌else◌}
+use Rattle.std.specs.Prelude.{◌≡◌, Bool, not, ◌&&◌, List, map, ℕ, ◌+◌, ◌-◌, ◌*◌, ◌/◌, ◌%◌, ◌≤◌, ◌<◌, T, leb, ltb, eqb, ℤ, pos, negsuc, neg_ℤ, nat_abs, length, take, if◌then◌else◌}
 use Rattle.std.proofs.Math.Path.{refl}
 use Rattle.std.proofs.Common.{sym, ap, subst, ◌∙◌, arith, SFits, length-take}
 use Rattle.std.proofs.Math.Bool.{true, false}
 use borrow.Author.Tests.{eq-eqb, ne_eqb, eqb-true, eqb-false, lt-ltb, le-ltb, not-true, not-false}
-use Rattle.std.proofs.Math.Facts.{or_no, ltb_no}
+use Rattle.std.proofs.lemmas.Bool.{or_parts, ltb-false}
 use Rattle.std.specs.Int.{w32, w64}
 use Rattle.std.proofs.lemmas.List.{length-map}
 use Rattle.std.specs.Int.Signed.{mag, le_z, ≤ℤ_refl}
-use Rattle.charts.specs.Tests.{if_yes, if_all}
+use Rattle.refusals.specs.Rows.{◌when◌, ◌or◌}
+use Rattle.charts.specs.Tests.{if_yes, if_all, is_true}
 use Rattle.charts.specs.Integers.{le_le_z, abs_sfits}
 use Rattle.calibration.specs.Pairs.{RequirementsRanged, ZRanged, z_ranged_of, between_answers}
 use Rattle.calibration.proofs.RangeLaws.{between_fits}
-use Rattle.calibration.proofs.FitRange.{T_true, fitted_ranged}
+use Rattle.calibration.proofs.FitRange.{fitted_ranged}
 use Rattle.calibration.proofs.ResidualLaws.{top_bound, residuals_ranged}
 use Rattle.calibration.proofs.VerdictLaws.{count_above}
 use Rattle.calibration.specs.Calibration.{LineRanged, count_fits, divisor_of, fit_from, fit_of, flat_of, line_fits, residuals_of, slope_of, slope_ranged_of, some_beyond, sums_of, top_of}
@@ -22,12 +23,12 @@ use Rattle.calibration.specs.declared.pairs.Pair.{Pair}
 use Rattle.calibration.specs.declared.pairs.Requirements.{Requirements}
 use Rattle.calibration.specs.declared.conditions.Standard.{Standard}
 use Rattle.records.specs.Bytes.{le16, le32, all_zero, bytes16, bytes32}
-use Rattle.records.specs.Record.{Record, kind, mark, minute, signed32, signed64, field, long_field, formed_of, plain_of, mark_limit, fields_end, ranged_of, z_of}
+use Rattle.records.specs.Record.{Record, kind, mark, minute, minute_limit, signed32, signed64, field, long_field, formed_of, plain_of, mark_limit, fields_end, ranged_of, z_of}
 use Rattle.records.specs.Kinds.{sets}
 use Rattle.records.specs.Table.{Facts, misplaced, untimely, days_fit, pair_of_waiting, calibration_of, annual_of, pass_mark, test_mark, sameℤ, stores_fit, stores_test, calibration_refusal, annual_refusal, kind_refusal, refusal_in}
 use Rattle.records.proofs.TableLaws.{calibration_count}
 use Rattle.records.specs.State.{facts_of}
-use Rattle.records.specs.Soundness.{SettingSound, Sound}
+use Rattle.records.specs.Soundness.{SettingSound, Sound, count_limit}
 use Rattle.records.proofs.SoundnessLaws.{pairs_ranged}
 use Rattle.records.specs.declared.state.Waiting.{Waiting}
 use Rattle.records.specs.declared.state.State.{State}
@@ -102,7 +103,7 @@ module _ (edition : ℕ) (q : Requirements) (z : ℤ) (ps : List Pair) (Q : Requ
 
       standing : T (not (some_beyond edition q.oxygen l ps)) → nat_abs (top_of edition q.limit most).0 ≤ 11000000
       standing t =
-          let far = (residuals_ranged edition q.oxygen l ps h (not-true (some_beyond edition q.oxygen l ps) (T_true _ t))).most in
+          let far = (residuals_ranged edition q.oxygen l ps h (not-true (some_beyond edition q.oxygen l ps) (is_true _ t))).most in
           top_bound edition q.limit most far Q.limit
 
   from_top : 0 < length ps → TopSmall (fit_from edition q z ps (sums_of ps))
@@ -116,7 +117,7 @@ module _ (edition : ℕ) (q : Requirements) (z : ℤ) (ps : List Pair) (Q : Requ
   unfolding fit_of
   fit_top =
       if_all TopSmall (not (count_fits (length ps))) _ _ (λ t. omega arith)
-      (λ t. from_top (count_above (length ps) (not-false (count_fits (length ps)) (not-true (not (count_fits (length ps))) (T_true _ t)))))
+      (λ t. from_top (count_above (length ps) (not-false (count_fits (length ps)) (not-true (not (count_fits (length ps))) (is_true _ t)))))
 
 -- what a calibration closing that is not refused stores fits its fields
 record Stored (c : Fitted) : Type 0 where
@@ -226,7 +227,7 @@ module _ (t : Tested) (n m : ℕ) where
 
 -- ---- the rows
 
-none_refuses : (f : Facts) (r : Record) → formed_of r ≡ true → misplaced f r ≡ false → untimely f r ≡ false → ranged_of r ≡ true → kind_refusal f r ≡ 0 → refusal_in f r ≡ 0
+none_refuses : (f : Facts) (r : Record) → formed_of r ≡ true → misplaced f r ≡ false → untimely f (minute r) ≡ false → ranged_of r ≡ true → kind_refusal f r ≡ 0 → refusal_in f r ≡ 0
 unfolding refusal_in
 none_refuses f r a b c d e = rw (a, b, c, d, e)
 
@@ -235,16 +236,12 @@ placed : (f : Facts) (r : Record) → f.begun ≡ true → sets r ≡ false → 
 unfolding misplaced
 placed f r b s = if_yes f.begun (sets r) (not (sets r)) b ∙ s
 
-timely : (f : Facts) (r : Record) (m : ℕ) → minute r ≡ m → (ltb m f.minute || ltb 100000000 m) ≡ false → untimely f r ≡ false
-unfolding untimely
-timely f r m e h = ap (λ (n : ℕ). ltb n f.minute || ltb 100000000 n) e ∙ h
-
 not_one : (r : Record) (k : ℕ) → kind r ≡ k → (k ≡ 1 → ⊥) → sets r ≡ false
 unfolding sets
 not_one r k e n = ne_eqb (kind r) 1 (λ z. n (sym e ∙ z))
 
 -- no refusal of its own, and the stored figures are those worked out
-both_pass : (n : ℕ) (stores : Bool) → n ≡ 0 → stores ≡ true → (if not (eqb n 0) then n else (if not stores then 25 else 0)) ≡ 0
+both_pass : (n : ℕ) (stores : Bool) → n ≡ 0 → stores ≡ true → (n or 25 when not stores) ≡ 0
 both_pass n stores e h = rw (e, h)
 
 module _ (f : Facts) (r : Record) where
@@ -265,8 +262,9 @@ module _ (f : Facts) (r : Record) where
   annual_kind_passes k n s = rw k (both_pass (annual_of f).refusal (stores_test (annual_of f) (length f.pending) r) n s)
 
 -- a minute in time is no more than the last one there is
-minute_small : (f : Facts) (m : ℕ) → (ltb m f.minute || ltb 100000000 m) ≡ false → m ≤ 100000000
-minute_small f m h = ltb_no (or_no (ltb m f.minute) (ltb 100000000 m) (subst (λ (b : Bool). T (not b)) (sym h) tt)).1
+minute_small : (f : Facts) (m : ℕ) → untimely f m ≡ false → m ≤ minute_limit
+unfolding untimely
+minute_small f m h = ltb-false minute_limit m (or_parts (ltb m f.minute) (ltb minute_limit m) h).1
 
 -- a closing that passes the first rows is in place and in time
 closing_passes : (f : Facts) (r : Record) (k told m : ℕ) (z : ℤ) → first_rows f told m z ≡ 0 → kind r ≡ k → (k ≡ 1 → ⊥) → (m < 4294967296 → minute r ≡ m) → formed_of r ≡ true
@@ -275,7 +273,7 @@ closing_passes : (f : Facts) (r : Record) (k told m : ℕ) (z : ℤ) → first_r
     → refusal_in f r ≡ 0
 closing_passes f r k told m z h e n i a d g =
     let t = passed_time f told m z h in
-    none_refuses f r a (placed f r (passed_begun f told m z h) (not_one r k e n)) (timely f r m (i (omega (arith, minute_small f m t))) t) d g
+    none_refuses f r a (placed f r (passed_begun f told m z h) (not_one r k e n)) (ap (untimely f) (i (omega (arith, minute_small f m t))) ∙ t) d g
 
 -- ---- the theorem
 
@@ -291,7 +289,7 @@ module _ (m : ℕ) (st : State) (S : Sound m st) (minute : ℕ) (z : ℤ) where
       let y = calibration_z c minute z (between_fits tt Z) in
       let F = stored m st z S (begun_setting m st (passed_begun f 5 minute z h) S) Z e in
       closing_passes f r 5 5 minute z h k (λ q. omega arith) (calibration_minute c minute z) (calibration_formed c minute z)
-      (calibration_ranged f r k (ap z_ranged_of y ∙ T_true _ ((between_answers (neg_ℤ (pos 10000)) (pos 10000) z).back Z)))
+      (calibration_ranged f r k (ap z_ranged_of y ∙ is_true _ ((between_answers (neg_ℤ (pos 10000)) (pos 10000) z).back Z)))
       (calibration_kind_passes f r k z y e (calibration_stores c minute z F))
 
   accepted_annual : (kind : ℕ) → first_rows (facts_of st) kind minute z ≡ 0 → (annual_of (facts_of st)).refusal ≡ 0
@@ -333,4 +331,4 @@ made_accepted st edition bytes kind minute z old h e =
     let s = (ran_of (opened st edition) bytes).state in
     let S = before_sound st edition bytes h (omega (arith, (fit_size 0 11 (length bytes) M.fits).few)) M.ready in
     ap (refusal_in (facts_of s)) (sym (bytes_made st edition bytes kind minute z old _ refl e))
-    ∙ closing_accepted 4000000000 s S minute z kind M.passes
+    ∙ closing_accepted count_limit s S minute z kind M.passes

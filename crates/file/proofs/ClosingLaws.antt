@@ -4,21 +4,20 @@ use Rattle.std.proofs.Math.Path.{refl, sym, ap}
 use Rattle.std.proofs.Common.{subst, ◌∙◌, arith}
 use mathlib.Core.List.{List, ◌++◌, append_assoc}
 use Prim.Native.Nat.{ℕ, ◌+◌, ◌/◌, ◌≤◌, ◌<◌}
-use borrow.Author.Tests.{eq-eqb, ne_eqb, eqb-true, eqb-false, not-false}
-use Rattle.std.proofs.Math.Dec.{ltb}
+use borrow.Author.Tests.{eq-eqb, ne_eqb, not-false}
 use Rattle.std.proofs.Math.ListN.{length, replicate, length-append}
-use Rattle.refusals.specs.Rows.{number_of}
+use Rattle.refusals.specs.Rows.{number_of, ◌when◌, ◌or◌, unless_refused}
+use Rattle.refusals.proofs.RowLaws.{row_passed, rows_passed, unfit, or_next, or_stop, unless_next, unless_passed, unless_stop}
 use Rattle.refusals.specs.declared.Refusal.{Refusal}
-use Rattle.charts.specs.Tests.{if_yes, if_no}
+use Rattle.charts.specs.Tests.{holds, if_yes, if_no}
 use Rattle.calibration.specs.Pairs.{ZRanged, between_answers}
 use Rattle.calibration.specs.Outcomes.{Fitted, Tested}
 use Rattle.records.specs.Bytes.{bytes32, written}
 use Rattle.records.specs.BytesLaws.{written_more, written_whole, bytes32_length}
-use Rattle.records.specs.RecordLaws.{holds}
-use Rattle.records.specs.Table.{Facts, calibration_of, annual_of, pass_mark, test_mark}
+use Rattle.records.specs.Table.{Facts, untimely, calibration_of, annual_of, pass_mark, test_mark}
 use Rattle.records.specs.State.{facts_of}
 use Rattle.records.specs.Steps.{Ran}
-use Rattle.records.specs.Soundness.{SettingSound, BegunSound, Sound}
+use Rattle.records.specs.Soundness.{SettingSound, BegunSound, Sound, Fitting}
 use Rattle.records.proofs.SoundnessLaws.{weaken}
 use Rattle.records.specs.declared.state.State.{State}
 use Rattle.file.specs.Blocks.{told_refusal}
@@ -31,7 +30,7 @@ use Rattle.file.proofs.ZeroLaws.{zeros_stay}
 use Rattle.file.specs.Answered.{PlaceOfTwelve, index_of, ran_of}
 use Rattle.file.specs.declared.Refused.{Refused}
 use Rattle.file.proofs.OutcomeLaws.{some_row}
-use Rattle.file.specs.Closings.{Made, head_of, figures_of, first_rows, z_fits, unsigned32, unsigned64, bytes64, calibration_record, annual_record, closing_of, closing_refusal, made, made_by, closed, ran_before, make_of, made_bytes}
+use Rattle.file.specs.Closings.{Made, head_of, figures_of, first_rows, z_fits, unsigned32, unsigned64, bytes64, calibration_record, annual_record, closing_of, closing_refusal, made, made_at, made_by, ran_before, making_refusal, make_of, made_bytes}
 
 -- ---- the forty bytes
 
@@ -161,83 +160,42 @@ module _ (t1 t2 : List ℕ) where
 -- ---- its rows
 
 module _ (f : Facts) (kind minute : ℕ) (z : ℤ) where
-  pub begun_stops : not f.begun ≡ true → first_rows f kind minute z ≡ 11
-  unfolding first_rows
-  begun_stops b = if_yes (not f.begun) _ _ b
+  -- the rows past the first three
+  abbrev figure_rows : ℕ
+  figure_rows = if eqb kind 5 then (calibration_of f z).refusal else (annual_of f).refusal
 
-  module _ (b : not f.begun ≡ false) where
-    pub time_stops : (ltb minute f.minute || ltb 100000000 minute) ≡ true → first_rows f kind minute z ≡ 12
-    unfolding first_rows
-    time_stops t = if_no (not f.begun) _ _ b ∙ if_yes (ltb minute f.minute || ltb 100000000 minute) _ _ t
-
-    module _ (t : (ltb minute f.minute || ltb 100000000 minute) ≡ false) where
-      pub z_stops : not (z_fits kind z) ≡ true → first_rows f kind minute z ≡ 13
-      unfolding first_rows
-      z_stops n = if_no (not f.begun) _ _ b ∙ if_no (ltb minute f.minute || ltb 100000000 minute) _ _ t ∙ if_yes (not (z_fits kind z)) _ _ n
-
-      pub none_stops : not (z_fits kind z) ≡ false → first_rows f kind minute z ≡ 0
-      unfolding first_rows
-      none_stops n = if_no (not f.begun) _ _ b ∙ if_no (ltb minute f.minute || ltb 100000000 minute) _ _ t ∙ if_no (not (z_fits kind z)) _ _ n
-
--- the rows that follow come to count where none of these stops it
-abbrev after : Bool → Bool → Bool → ℕ → ℕ
-after a b c n = if a then 11 else (if b then 12 else (if c then 13 else n))
-
-after_stopped : (a b c : Bool) (n : ℕ) → (after a b c 0 ≡ 0 → ⊥) → after a b c n ≡ after a b c 0
-after_stopped true b c n h = refl
-after_stopped false true c n h = refl
-after_stopped false false true n h = refl
-after_stopped false false false n h = absurd (h refl)
-
-after_none : (a b c : Bool) (n : ℕ) → after a b c n ≡ 0 → after a b c 0 ≡ 0
-after_none true b c n h = h
-after_none false true c n h = h
-after_none false false true n h = h
-after_none false false false n h = refl
-
--- what it tells that none did
-record Passed (a b c : Bool) : Type 0 where
-  first : a ≡ false
-  second : b ≡ false
-  third : c ≡ false
-  rest : (n : ℕ) → after a b c n ≡ n
-
-after_passed : (a b c : Bool) → after a b c 0 ≡ 0 → Passed a b c
-after_passed true b c h = absurd (omega arith)
-after_passed false true c h = absurd (omega arith)
-after_passed false false true h = absurd (omega arith)
-after_passed false false false h = record { first = refl; second = refl; third = refl; rest = λ n. refl }
-
-module _ (f : Facts) (kind minute : ℕ) (z : ℤ) where
   pub first_refuses : (first_rows f kind minute z ≡ 0 → ⊥) → closing_refusal f kind minute z ≡ first_rows f kind minute z
-  unfolding first_rows closing_refusal
-  first_refuses h = after_stopped (not f.begun) (ltb minute f.minute || ltb 100000000 minute) (not (z_fits kind z)) _ h
+  unfolding closing_refusal
+  first_refuses h = or_stop (first_rows f kind minute z) figure_rows h
 
   pub first_passed : closing_refusal f kind minute z ≡ 0 → first_rows f kind minute z ≡ 0
-  unfolding first_rows closing_refusal
-  first_passed h = after_none (not f.begun) (ltb minute f.minute || ltb 100000000 minute) (not (z_fits kind z)) _ h
+  unfolding closing_refusal
+  first_passed h = (rows_passed (first_rows f kind minute z) h).0
 
   module _ (h : first_rows f kind minute z ≡ 0) where
-    passed : Passed (not f.begun) (ltb minute f.minute || ltb 100000000 minute) (not (z_fits kind z))
+    begun_row : (not f.begun ≡ false) × ((12 when untimely f minute or 13 when not (z_fits kind z)) ≡ 0)
     unfolding first_rows
-    passed = after_passed (not f.begun) (ltb minute f.minute || ltb 100000000 minute) (not (z_fits kind z)) h
+    begun_row = row_passed 11 (not f.begun) tt h
+
+    time_row : (untimely f minute ≡ false) × ((13 when not (z_fits kind z)) ≡ 0)
+    time_row = row_passed 12 (untimely f minute) tt begun_row.1
 
     pub passed_begun : f.begun ≡ true
-    passed_begun = not-false f.begun passed.first
+    passed_begun = not-false f.begun begun_row.0
 
-    pub passed_time : (ltb minute f.minute || ltb 100000000 minute) ≡ false
-    passed_time = passed.second
+    pub passed_time : untimely f minute ≡ false
+    passed_time = time_row.0
 
     pub passed_z : z_fits kind z ≡ true
-    passed_z = not-false (z_fits kind z) passed.third
+    passed_z = not-false (z_fits kind z) (unfit 13 (not (z_fits kind z)) tt time_row.1)
 
     pub calibration_row : kind ≡ 5 → closing_refusal f kind minute z ≡ (calibration_of f z).refusal
     unfolding closing_refusal
-    calibration_row k = passed.rest _ ∙ if_yes (eqb kind 5) _ _ (eq-eqb kind 5 k)
+    calibration_row k = or_next (first_rows f kind minute z) figure_rows h ∙ if_yes (eqb kind 5) _ _ (eq-eqb kind 5 k)
 
     pub annual_row : (kind ≡ 5 → ⊥) → closing_refusal f kind minute z ≡ (annual_of f).refusal
     unfolding closing_refusal
-    annual_row k = passed.rest _ ∙ if_no (eqb kind 5) _ _ (ne_eqb kind 5 k)
+    annual_row k = or_next (first_rows f kind minute z) figure_rows h ∙ if_no (eqb kind 5) _ _ (ne_eqb kind 5 k)
 
   pub calibration_bytes : kind ≡ 5 → closing_of f kind minute z ≡ calibration_record (calibration_of f z) minute z
   unfolding closing_of
@@ -255,7 +213,7 @@ z_in_range kind z k h = holds (between_answers (neg_ℤ (pos 10000)) (pos 10000)
 -- ---- the state that the records before it lead to
 
 pub before_sound : (st : State) (edition : ℕ) (bytes : List ℕ) → length st.pairs ≡ 30 → length bytes ≤ 480 → ready_of st ≡ true
-    → Sound 4000000000 (ran_of (opened st edition) bytes).state
+    → Fitting (ran_of (opened st edition) bytes).state
 unfolding ran_of
 before_sound st edition bytes h few r =
     let o = opened st edition in
@@ -267,54 +225,83 @@ pub begun_setting : (m : ℕ) (st : State) → (facts_of st).begun ≡ true → 
 unfolding facts_of
 begun_setting m st b S = subst (λ (t : Bool). BegunSound t st.setting) b S.setting
 
--- ---- the call, gate by gate
+-- ---- the call, row by row
 
 module _ (st : State) (edition : ℕ) (bytes : List ℕ) (kind minute : ℕ) (z : ℤ) (size : ℕ) where
-  pub size_stops : (size ≡ 40 → ⊥) → make_of st edition bytes kind minute z size ≡ made 1 255
+  -- the rows of the call
+  abbrev call_rows : ℕ
+  call_rows = making_refusal st edition bytes kind size
+
+  -- the records before the closing, from the state with which its block begins
+  abbrev before : Ran State
+  before = ran_before st edition bytes
+
+  -- the closing's own rows
+  abbrev own_rows : ℕ
+  own_rows = closing_refusal (facts_of before.kept) kind minute z
+
+  abbrev past_records : Made
+  past_records = unless_refused (made_at (length bytes / 40)) own_rows (made 0 255)
+
+  abbrev past_rows : Made
+  past_rows = unless_refused (made_at before.index) before.refusal past_records
+
+  abbrev make : Made
+  make = make_of st edition bytes kind minute z size
+
+  -- one of the call's own rows
+  row_stops : (n : ℕ) → call_rows ≡ n → (n ≡ 0 → ⊥) → make ≡ made n 255
   unfolding make_of
-  size_stops n = rw (ne_eqb size 40 n)
+  row_stops n e h = unless_stop (made_at 255) call_rows past_rows (λ q. h (sym e ∙ q)) ∙ ap (made_at 255) e
+
+  pub size_stops : (size ≡ 40 → ⊥) → make ≡ made 1 255
+  unfolding making_refusal
+  size_stops n = row_stops 1 (rw (ne_eqb size 40 n)) (λ q. omega arith)
 
   module _ (s : size ≡ 40) where
-    pub fit_stops : records_fit 0 11 (length bytes) ≡ false → make_of st edition bytes kind minute z size ≡ made 6 255
-    unfolding make_of
-    fit_stops f = rw (eq-eqb size 40 s, f)
+    pub fit_stops : records_fit 0 11 (length bytes) ≡ false → make ≡ made 6 255
+    unfolding making_refusal
+    fit_stops f = row_stops 6 (rw (eq-eqb size 40 s, f)) (λ q. omega arith)
 
     module _ (f : records_fit 0 11 (length bytes) ≡ true) where
-      pub kind_stops : (eqb kind 5 || eqb kind 6) ≡ false → make_of st edition bytes kind minute z size ≡ made 6 255
-      unfolding make_of
-      kind_stops k = rw (eq-eqb size 40 s, f, k)
+      pub kind_stops : (eqb kind 5 || eqb kind 6) ≡ false → make ≡ made 6 255
+      unfolding making_refusal
+      kind_stops k = row_stops 6 (rw (eq-eqb size 40 s, f, k)) (λ q. omega arith)
 
       module _ (k : (eqb kind 5 || eqb kind 6) ≡ true) where
-        pub ready_stops : ready_of st ≡ false → make_of st edition bytes kind minute z size ≡ made 7 255
-        unfolding make_of
-        ready_stops r = rw (eq-eqb size 40 s, f, k, r)
+        pub ready_stops : ready_of st ≡ false → make ≡ made 7 255
+        unfolding making_refusal
+        ready_stops r = row_stops 7 (rw (eq-eqb size 40 s, f, k, r)) (λ q. omega arith)
 
         module _ (r : ready_of st ≡ true) where
-          pub told_stops : (n : ℕ) → n ≡ told_refusal st.edition edition → (n ≡ 0 → ⊥) → make_of st edition bytes kind minute z size ≡ made n 255
-          unfolding make_of
-          told_stops n g h = rw (eq-eqb size 40 s, f, k, r, sym g, ne_eqb n 0 h)
+          told_row : call_rows ≡ told_refusal st.edition edition
+          unfolding making_refusal
+          told_row = rw (eq-eqb size 40 s, f, k, r)
+
+          pub told_stops : (n : ℕ) → n ≡ told_refusal st.edition edition → (n ≡ 0 → ⊥) → make ≡ made n 255
+          told_stops n g h = row_stops n (told_row ∙ sym g) h
 
           module _ (t : told_refusal st.edition edition ≡ 0) where
-            pub record_stops : ((ran_of (opened st edition) bytes).refusal ≡ 0 → ⊥)
-                → make_of st edition bytes kind minute z size ≡ made (ran_of (opened st edition) bytes).refusal (ran_of (opened st edition) bytes).index
-            unfolding make_of ran_before ran_of
-            record_stops n =
-                rw (eq-eqb size 40 s, f, k, r, eq-eqb (told_refusal st.edition edition) 0 t, ne_eqb (ran_before st edition bytes).refusal 0 n)
+            passed : make ≡ past_rows
+            unfolding make_of
+            passed = unless_next (made_at 255) call_rows past_rows (told_row ∙ t)
+
+            pub record_stops : ((ran_of (opened st edition) bytes).refusal ≡ 0 → ⊥) → make ≡ made (ran_of (opened st edition) bytes).refusal (ran_of (opened st edition) bytes).index
+            unfolding ran_before ran_of
+            record_stops n = passed ∙ unless_stop (made_at before.index) before.refusal past_records n
 
             module _ (e : (ran_of (opened st edition) bytes).refusal ≡ 0) where
-              past : make_of st edition bytes kind minute z size ≡ closed (facts_of (ran_of (opened st edition) bytes).state) (length bytes / 40) kind minute z
-              unfolding make_of ran_before ran_of
-              past = rw (eq-eqb size 40 s, f, k, r, eq-eqb (told_refusal st.edition edition) 0 t, eq-eqb (ran_before st edition bytes).refusal 0 e)
+              past : make ≡ past_records
+              unfolding ran_before ran_of
+              past = passed ∙ unless_next (made_at before.index) before.refusal past_records e
 
-              pub closing_stops : (n : ℕ) → n ≡ closing_refusal (facts_of (ran_of (opened st edition) bytes).state) kind minute z → (n ≡ 0 → ⊥)
-                  → make_of st edition bytes kind minute z size ≡ made n (length bytes / 40)
-              unfolding closed
-              closing_stops n g h = past ∙ rw (sym g, ne_eqb n 0 h)
+              pub closing_stops : (n : ℕ) → n ≡ closing_refusal (facts_of (ran_of (opened st edition) bytes).state) kind minute z → (n ≡ 0 → ⊥) → make ≡ made n (length bytes / 40)
+              unfolding ran_before ran_of
+              closing_stops n g h = past ∙ unless_stop (made_at (length bytes / 40)) own_rows (made 0 255) (λ q. h (g ∙ q)) ∙ ap (made_at (length bytes / 40)) (sym g)
 
-              pub closing_made : (n : ℕ) → n ≡ closing_refusal (facts_of (ran_of (opened st edition) bytes).state) kind minute z → n ≡ 0
-                  → make_of st edition bytes kind minute z size ≡ made 0 255
-              unfolding closed
-              closing_made n g h = past ∙ rw (sym g, eq-eqb n 0 h)
+              pub closing_made : (n : ℕ) → n ≡ closing_refusal (facts_of (ran_of (opened st edition) bytes).state) kind minute z → n ≡ 0 → make ≡ made 0 255
+              unfolding ran_before ran_of
+              closing_made n g h = past ∙ unless_next (made_at (length bytes / 40)) own_rows (made 0 255) (sym g ∙ h)
 
 -- what it tells that one was made
 pub record MadePasses (st : State) (edition : ℕ) (bytes : List ℕ) (kind minute : ℕ) (z : ℤ) : Type 0 where
@@ -326,44 +313,25 @@ pub record MadePasses (st : State) (edition : ℕ) (bytes : List ℕ) (kind minu
 
 pub made_passes : (st : State) (edition : ℕ) (bytes : List ℕ) (kind minute : ℕ) (z : ℤ) (size : ℕ) → (make_of st edition bytes kind minute z size).refusal ≡ 0
     → MadePasses st edition bytes kind minute z
-unfolding make_of closed ran_before ran_of
+unfolding make_of making_refusal ran_before ran_of
 made_passes st edition bytes kind minute z size e =
-    by_tests (eqb size 40) (records_fit 0 11 (length bytes)) (eqb kind 5 || eqb kind 6) (ready_of st) (eqb told 0) (eqb ran.refusal 0) (eqb own 0)
-    refl refl refl refl refl e
-  where
-    told : ℕ
-    told = told_refusal st.edition edition
-
-    ran : Ran State
-    ran = ran_before st edition bytes
-
-    own : ℕ
-    own = closing_refusal (facts_of ran.kept) kind minute z
-
-    by_tests : (a b c d t r o : Bool) → records_fit 0 11 (length bytes) ≡ b → ready_of st ≡ d → eqb told 0 ≡ t → eqb ran.refusal 0 ≡ r → eqb own 0 ≡ o
-        → (if not a then made 1 255
-        else (if not b then made 6 255
-        else (if not c then made 6 255
-        else (if not d then made 7 255
-        else (if not t then made told 255
-        else (if not r then made ran.refusal ran.index
-        else (if not o then made own (length bytes / 40)
-        else made 0 255))))))).refusal ≡ 0
-        → MadePasses st edition bytes kind minute z
-    by_tests false b c d t r o f g h i j e = absurd (omega arith)
-    by_tests true false c d t r o f g h i j e = absurd (omega arith)
-    by_tests true true false d t r o f g h i j e = absurd (omega arith)
-    by_tests true true true false t r o f g h i j e = absurd (omega arith)
-    by_tests true true true true false r o f g h i j e = absurd (eqb-false told 0 h e)
-    by_tests true true true true true false o f g h i j e = absurd (eqb-false ran.refusal 0 i e)
-    by_tests true true true true true true false f g h i j e = absurd (eqb-false own 0 j e)
-    by_tests true true true true true true true f g h i j e = record {
-      fits = f;
-      ready = g;
-      told = eqb-true told 0 h;
-      accepted = eqb-true ran.refusal 0 i;
-      passes = eqb-true own 0 j;
+    let call = passed 255 (making_refusal st edition bytes kind size) _ e in
+    let a = row_passed 1 (not (eqb size 40)) tt call.0 in
+    let b = row_passed 6 (not (records_fit 0 11 (length bytes))) tt a.1 in
+    let c = row_passed 6 (not (eqb kind 5 || eqb kind 6)) tt b.1 in
+    let d = row_passed 7 (not (ready_of st)) tt c.1 in
+    let ran = passed (ran_before st edition bytes).index (ran_before st edition bytes).refusal _ call.1 in
+    let own = passed (length bytes / 40) (closing_refusal (facts_of (ran_before st edition bytes).kept) kind minute z) (made 0 255) ran.1 in
+    record {
+      fits = not-false (records_fit 0 11 (length bytes)) b.0;
+      ready = not-false (ready_of st) d.0;
+      told = d.1;
+      accepted = ran.0;
+      passes = own.0;
     }
+  where
+    passed : (index n : ℕ) (rest : Made) → (unless_refused (made_at index) n rest).refusal ≡ 0 → (n ≡ 0) × (rest.refusal ≡ 0)
+    passed index n rest e = unless_passed (made_at index) (λ (m : Made). m.refusal) (λ n. refl) n rest e
 
 module _ (st : State) (edition : ℕ) (bytes : List ℕ) (kind minute : ℕ) (z : ℤ) (old : List ℕ) (x : Made)
     (e : make_of st edition bytes kind minute z (length old) ≡ x) where

@@ -15,4 +15,3 @@ pub mod EditionLaws
 pub mod RoundTrip
 pub mod ClosingLaws
 pub mod ClosingAccepted
-pub mod PlaceLaws

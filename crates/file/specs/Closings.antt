@@ -1,11 +1,12 @@
 -- Paper 01, 'Making blocks and closings', and paper 02, C-12 and C-13: making a closing, and the rows of 'Where input is stopped' for it. Its figures are worked
 -- out from the state that the records before it lead to, in a block of the edition told.
-use Rattle.std.specs.Prelude.{Bool, not, ◌||◌, List, [], ◌∷◌, ◌++◌, ℕ, ◌-◌, ◌/◌, ◌%◌, ltb, eqb, ℤ, pos, negsuc, length, replicate, if◌then◌else◌, Result}
+use Rattle.std.specs.Prelude.{Bool, not, ◌||◌, List, [], ◌∷◌, ◌++◌, ℕ, ◌-◌, ◌/◌, ◌%◌, eqb, ℤ, pos, negsuc, length, replicate, if◌then◌else◌, Result}
+use Rattle.refusals.specs.Rows.{◌when◌, ◌or◌, unless_refused}
 use Rattle.calibration.specs.Pairs.{z_ranged_of}
 use Rattle.calibration.specs.Outcomes.{Fitted, Tested}
 use Rattle.records.specs.Bytes.{bytes32}
 use Rattle.records.specs.Record.{Record}
-use Rattle.records.specs.Table.{Facts, calibration_of, annual_of, pass_mark, test_mark, sameℤ}
+use Rattle.records.specs.Table.{Facts, untimely, calibration_of, annual_of, pass_mark, test_mark, sameℤ}
 use Rattle.records.specs.State.{facts_of}
 use Rattle.records.specs.Steps.{Ran, ran_from, state_rules}
 use Rattle.records.specs.declared.state.State.{State}
@@ -58,13 +59,16 @@ closing_of f kind minute z =
 unfoldable pub z_fits : ℕ → ℤ → Bool
 z_fits kind z = if eqb kind 5 then z_ranged_of z else sameℤ z (pos 0)
 
+unfoldable pub first_rows : Facts → ℕ → ℕ → ℤ → ℕ
+first_rows f kind minute z =
+    11 when not f.begun
+    or 12 when untimely f minute
+    or 13 when not (z_fits kind z)
+
 unfoldable pub closing_refusal : Facts → ℕ → ℕ → ℤ → ℕ
 closing_refusal f kind minute z =
-    if not f.begun then 11
-    else (if ltb minute f.minute || ltb 100000000 minute then 12
-    else (if not (z_fits kind z) then 13
-    else (if eqb kind 5 then (calibration_of f z).refusal
-    else (annual_of f).refusal)))
+    first_rows f kind minute z
+    or (if eqb kind 5 then (calibration_of f z).refusal else (annual_of f).refusal)
 
 -- ---- the call
 
@@ -80,28 +84,30 @@ made_by r = record { refusal = row_of r; index = place_of r }
 abbrev pub made : ℕ → ℕ → Made
 made refusal index = record { refusal = refusal; index = index }
 
--- after the records before it, all accepted: refused at the place past them, or made
-unfoldable pub closed : Facts → ℕ → ℕ → ℕ → ℤ → Made
-closed f place kind minute z =
-    if not (eqb (closing_refusal f kind minute z) 0) then made (closing_refusal f kind minute z) place
-    else made 0 255
+abbrev pub made_at : ℕ → ℕ → Made
+made_at index refusal = made refusal index
 
 -- the records before it, one after another, in a block of the edition told
 unfoldable pub ran_before : State → ℕ → List ℕ → Ran State
 ran_before st edition bytes = ran_from state_rules 0 (opened st edition) (records (length bytes / 40) bytes)
 
--- making a closing in a target of so many bytes: 1, 6 for the records or the kind, 7, 3 and 26 for the edition, the rows of the records before it, then
--- its own
+-- making, into a target of `size` bytes, before the records: 3 and 26 are for the edition told
+unfoldable pub making_refusal : State → ℕ → List ℕ → ℕ → ℕ → ℕ
+making_refusal st edition bytes kind size =
+    1 when not (eqb size 40)
+    or 6 when not (records_fit 0 11 (length bytes))
+    or 6 when not (eqb kind 5 || eqb kind 6)
+    or 7 when not (ready_of st)
+    or told_refusal st.edition edition
+
+-- making a closing: the rows of the call, those of the records before the closing, then its own, at the place past them
 unfoldable pub make_of : State → ℕ → List ℕ → ℕ → ℕ → ℤ → ℕ → Made
 make_of st edition bytes kind minute z size =
     let ran : Ran State = ran_before st edition bytes in
-    if not (eqb size 40) then made 1 255
-    else (if not (records_fit 0 11 (length bytes)) then made 6 255
-    else (if not (eqb kind 5 || eqb kind 6) then made 6 255
-    else (if not (ready_of st) then made 7 255
-    else (if not (eqb (told_refusal st.edition edition) 0) then made (told_refusal st.edition edition) 255
-    else (if not (eqb ran.refusal 0) then made ran.refusal ran.index
-    else closed (facts_of ran.kept) (length bytes / 40) kind minute z)))))
+    unless_refused (made_at 255) (making_refusal st edition bytes kind size)
+    (unless_refused (made_at ran.index) ran.refusal
+    (unless_refused (made_at (length bytes / 40)) (closing_refusal (facts_of ran.kept) kind minute z)
+    (made 0 255)))
 
 -- the target after it: the new closing, or all bytes as before if there is none
 unfoldable pub made_bytes : State → ℕ → List ℕ → ℕ → ℕ → ℤ → List ℕ → List ℕ
@@ -118,15 +124,3 @@ head_of kind mark minute = (kind ∷ mark ∷ 0 ∷ 0 ∷ []) ++ bytes32 minute
 -- slope, intercept, top and N
 unfoldable pub figures_of : Fitted → List ℕ
 figures_of c = bytes32 (unsigned32 c.line.slope) ++ bytes64 (unsigned64 c.line.intercept) ++ bytes32 (unsigned32 c.top.0) ++ bytes32 c.count
-
--- the new bytes where nothing was refused, else the old ones
-abbrev pub kept : ℕ → List ℕ → List ℕ → List ℕ
-kept refusal new old = if eqb refusal 0 then new else old
-
--- rows 11, 12 and 13 of a closing, 0 where none stops it
-unfoldable pub first_rows : Facts → ℕ → ℕ → ℤ → ℕ
-first_rows f kind minute z =
-    if not f.begun then 11
-    else (if ltb minute f.minute || ltb 100000000 minute then 12
-    else (if not (z_fits kind z) then 13
-    else 0))

@@ -3,7 +3,7 @@ ghost use Rattle.std.specs.Prelude.{◌≡◌, ◌||◌, eqb, length, replicate,
 ghost use Rattle.refusals.specs.Rows.{outcome_of};
 ghost use Rattle.calibration.specs.Outcomes.{fitted, tested};
 ghost use Rattle.records.specs.Bytes.{written};
-ghost use Rattle.records.specs.Soundness.{Sound};
+ghost use Rattle.records.specs.Soundness.{Fitting};
 ghost use Rattle.records.specs.State.{facts_of};
 ghost use Rattle.file.specs.Answered.{PlaceOfTwelve};
 ghost use Rattle.file.specs.Closings.{annual_record, calibration_record, closing_of, closing_refusal, first_rows, head_of, made_by, made_bytes, make_of, z_fits};
@@ -11,7 +11,7 @@ ghost use Rattle.file.specs.Closings.{annual_record, calibration_record, closing
 use crate::{Refused, blocks, forming, taking};
 use calibration::{Figures, Verdicts};
 use records::state::State;
-use records::{bytes, closing};
+use records::{bytes, checks, closing};
 use refusals::Refusal;
 
 // A closing to be made: its kind, its minute, and Z for a calibration. The kind is a record's byte, as any byte may be asked for: row 6 stops one that
@@ -86,7 +86,7 @@ fn first_rows(st: State, closing: Closing) -> Result<(), Refusal>
     if !st.begun {
         return Err(Refusal::Place);
     }
-    if closing.minute < st.minute || 100000000 < closing.minute {
+    if checks::untimely(st, closing.minute) {
         return Err(Refusal::Minute);
     }
     if !z_fits(closing.kind, closing.z) {
@@ -97,7 +97,7 @@ fn first_rows(st: State, closing: Closing) -> Result<(), Refusal>
 
 // A closing of either kind after the records before it.
 fn close(st: State, closing: Closing) -> Result<[u8; 40], Refusal>
-    requires { Sound 4000000000 st }
+    requires { Fitting st }
     ensures row { outcome_of result ≡ closing_refusal (facts_of st) closing.kind closing.minute closing.z }
     ensures bytes { IfOk result (λ bytes. bytes ≡ closing_of (facts_of st) closing.kind closing.minute closing.z) }
 {

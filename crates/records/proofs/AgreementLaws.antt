@@ -7,6 +7,7 @@ use Rattle.std.proofs.Math.Option.{Option, none, some, get_or}
 use borrow.Author.Tests.{leb-false}
 use Rattle.std.proofs.Math.Dec.{eqb, ltb, nltb→le, eqb→eq}
 use Rattle.std.proofs.Math.Seq.{set-append_seam}
+use Rattle.refusals.proofs.RowLaws.{row_passed}
 use Rattle.charts.specs.Tests.{if_yes, if_no}
 use Rattle.charts.specs.Charts.{blank, reset_of, applied_of}
 use Rattle.charts.specs.Readings.{Reading, differences, after_readings}
@@ -24,11 +25,6 @@ use Rattle.records.specs.declared.state.Waiting.{Waiting}
 use Rattle.records.specs.declared.state.State.{State}
 
 -- ---- what acceptance tells of the record
-
--- a table of tests: where its answer is 0, the rows above 0 did not fit
-row : (n : ℕ) (b : Bool) (rest : ℕ) → 0 < n → (if b then n else rest) ≡ 0 → (b ≡ false) × (rest ≡ 0)
-row n true rest l e = absurd (omega arith)
-row n false rest l e = (refl, e)
 
 -- tests
 differ : ◌≡◌ {A = Bool} true false → ⊥
@@ -57,13 +53,13 @@ module _ (h : History) (x : Entry) (e : refusal_of h x ≡ 0) where
   abbrev f : Facts
   f = facts_in x.edition h
 
-  rows : (misplaced f r ≡ false) × (untimely f r ≡ false) × (kind_refusal f r ≡ 0)
+  rows : (misplaced f r ≡ false) × (untimely f (minute r) ≡ false) × (kind_refusal f r ≡ 0)
   unfolding refusal_in
   rows =
-      let a = row 10 (not (formed_of r)) _ (omega arith) e in
-      let b = row 11 (misplaced f r) _ (omega arith) a.1 in
-      let c = row 12 (untimely f r) _ (omega arith) b.1 in
-      let d = row 13 (not (ranged_of r)) _ (omega arith) c.1 in
+      let a = row_passed 10 (not (formed_of r)) tt e in
+      let b = row_passed 11 (misplaced f r) tt a.1 in
+      let c = row_passed 12 (untimely f (minute r)) tt b.1 in
+      let d = row_passed 13 (not (ranged_of r)) tt c.1 in
       (b.0, c.0, d.1)
 
   -- it is not earlier than the last
@@ -93,15 +89,15 @@ module _ (h : History) (x : Entry) (e : refusal_of h x ≡ 0) where
       by c (rw (k, m) at rows.2)
     where
       by : (c : Point) → (if eqb (number c) 0 then chart_refusal (started_in at_zero h) (length (differences_in at_zero h)) else chart_refusal (started_in at_span h) (length (differences_in at_span h))) ≡ 0 → started_in c h ≡ true
-      by at_zero e = not_not (started_in at_zero h) (row 14 (not (started_in at_zero h)) _ (omega arith) e).0
-      by at_span e = not_not (started_in at_span h) (row 14 (not (started_in at_span h)) _ (omega arith) e).0
+      by at_zero e = not_not (started_in at_zero h) (row_passed 14 (not (started_in at_zero h)) tt e).0
+      by at_span e = not_not (started_in at_span h) (row_passed 14 (not (started_in at_span h)) tt e).0
 
   -- a pair finds a place
   pub pair_fits : pairs r ≡ true → length (pending_in h) < 30
   unfolding pairs kind_refusal pair_refusal facts_in
   pair_fits b =
       let k : kind r ≡ 4 = eqb→eq (kind r) 4 (T_of b) in
-      leb-false 30 (length (pending_in h)) (row 18 (leb 30 (length (pending_in h))) _ (omega arith) (rw k at rows.2)).0
+      leb-false 30 (length (pending_in h)) (row_passed 18 (leb 30 (length (pending_in h))) tt (rw k at rows.2)).0
 
 pub ordered : (h : History) → Taken h → Ordered h
 ordered [] t = tt

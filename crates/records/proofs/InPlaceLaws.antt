@@ -5,24 +5,24 @@ use Prim.Native.Nat.{ℕ, ◌+◌}
 use lib.Dec.{eqb, leb}
 use borrow.Author.Tests.{ne_eqb, eqb-true, leb-true, le-ltb}
 use Rattle.std.specs.Prelude.{if◌then◌else◌}
-use Rattle.charts.specs.Tests.{and_both}
+use Rattle.std.proofs.lemmas.Bool.{and_parts}
 use Rattle.charts.specs.declared.Chart.{Chart}
 use Rattle.records.specs.Record.{Record, kind, mark, minute}
 use Rattle.records.specs.Kinds.{reads, resets, sets, pairs, empties, calibrates, passes, fails, counts, week_of, outside_by}
 use Rattle.records.specs.Table.{refusal_in}
 use Rattle.records.specs.State.{facts_of, chart_after, turns_from, applied_to}
 use Rattle.records.specs.StateParts.{judged_of}
-use Rattle.records.specs.Soundness.{Sound}
+use Rattle.records.specs.Soundness.{Fitting}
 use Rattle.records.specs.InPlace.{in_week_of, InWeek}
 use Rattle.records.specs.declared.state.State.{State}
 
 -- ---- in_week_of
 
-pub in_week : (k : ℕ) (st : State) (r : Record) → in_week_of k st r ≡ true → Sound 4000000000 st → refusal_in (facts_of st) r ≡ 0
+pub in_week : (k : ℕ) (st : State) (r : Record) → in_week_of k st r ≡ true → Fitting st → refusal_in (facts_of st) r ≡ 0
     → InWeek k st r
 unfolding in_week_of
 in_week k st r t s a =
-    let p = and_both (eqb (kind r) k) (leb (week_of (minute r)) (week_of st.minute)) t in
+    let p = and_parts (eqb (kind r) k) (leb (week_of (minute r)) (week_of st.minute)) t in
     record {
       sound = s;
       accepted = a;

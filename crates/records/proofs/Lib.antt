@@ -11,4 +11,3 @@ pub mod TableLaws
 pub mod SoundnessLaws
 pub mod AnswersLaws
 pub mod LentListLaws
-pub mod HalvesLaws

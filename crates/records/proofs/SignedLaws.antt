@@ -1,19 +1,19 @@
 -- Signed numbers that a call gives, as the machine reads them back from their bits.
-use mathlib.Core.Path.{◌≡◌, sym, ap, ◌∙◌, subst}
+use mathlib.Core.Path.{◌≡◌, sym, ap, ◌∙◌}
+use mathlib.Core.Bool.{Bool}
 use Prim.Native.Nat.{ℕ, ◌^◌, ◌<◌}
 use native.Mathlib.Omega.{arith}
 use lib.Dec.{T, eqb}
-use lib.IntN.{ℤ, pos, negsuc, nat_abs, ◌-ℤ◌}
+use lib.IntN.{ℤ, pos, negsuc, nat_abs}
 use lib.Signed.{mag, non_neg, yes_non_neg}
 use mir.Syntax.{Width}
 use mir.Val.{Fits, SFits, to_z, of_z, hbits, bits}
-use mir.Facts.{to_z-of_z, to_z_pos}
+use mir.Facts.{to_z-of_z}
 use Rattle.std.proofs.Math.Facts.{eqb_yes, yes_eqb, and_yes, yes_and}
 use Rattle.std.proofs.Common.{le→leb}
 use Rattle.std.specs.Int.Signed.{le_z, le_z_yes}
 use Rattle.charts.specs.Tests.{same_answer}
-use Rattle.charts.specs.Integers.{diff, le_ud, ud_le, ud_eq, ≤ℤ-antisymm}
-use Rattle.charts.specs.SignedLocals.{result}
+use Rattle.charts.specs.Integers.{le_ud, ud_le, ≤ℤ-antisymm}
 use Rattle.calibration.specs.Pairs.{Between}
 use Rattle.calibration.proofs.RangeLaws.{between_size}
 use Rattle.records.specs.Table.{sameℤ}
@@ -48,14 +48,3 @@ same_bits w {x} {y} {z} ok e f =
 -- a number in a range that is not below 0 is cast to an unsigned type
 pub unsigned_need : (w : Width) {a b : ℕ} {y z : ℤ} → b < 2 ^ bits w → y ≡ z → Between (pos a) (pos b) z → T (non_neg y) × Fits w (nat_abs y)
 unsigned_need w {a} {b} {z} h e B = rw e (yes_non_neg {z = z} (ud_le (omega (arith, le_ud B.low))), record { fits = omega (arith, (between_size B).1) })
-
--- -1 - m, from the bits of m
-module _ (w : Width) (m : ℕ) (h : m < 2 ^ hbits w) where
-  minus_is : negsuc 0 -ℤ to_z w m ≡ negsuc m
-  minus_is = ap (λ (z : ℤ). negsuc 0 -ℤ z) (to_z_pos w h) ∙ ud_eq (omega (arith, diff (negsuc 0) (pos m)))
-
-  pub minus_need : SFits w (negsuc 0 -ℤ to_z w m)
-  minus_need = subst (SFits w) (sym minus_is) (record { sfits = h })
-
-  pub minus_reads : to_z w (of_z w (negsuc 0 -ℤ to_z w m)) ≡ negsuc m
-  minus_reads = result minus_is (record { sfits = h })

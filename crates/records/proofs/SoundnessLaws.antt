@@ -12,7 +12,7 @@ use Rattle.calibration.specs.Pairs.{AllRanged}
 use Rattle.calibration.specs.Calibration.{LineRanged}
 use Rattle.calibration.proofs.FitRange.{fitted_ranged}
 use Rattle.calibration.proofs.RangeLaws.{between_abs}
-use Rattle.records.specs.Record.{Record, kind, mark, minute, setting_ranged, setting_of, difference_of, waiting_of, function_of, z_of}
+use Rattle.records.specs.Record.{Record, kind, mark, minute, minute_limit, setting_ranged, setting_of, difference_of, waiting_of, function_of, z_of}
 use Rattle.records.specs.RecordLaws.{WaitingFields, setting_fields, setting_ranged_lem, reading_fields, reading_ranged_lem, waiting_fields, waiting_ranged_lem, z_field, z_ranged}
 use Rattle.records.specs.Kinds.{Point, at_zero, at_span, deviation_of, reads, resets, sets, pairs, empties, calibrates, passes, counts, exceeds, outside_by, line_of}
 use Rattle.records.specs.Table.{misplaced, pair_of_waiting, refusal_in}
@@ -93,7 +93,7 @@ setting_known st r p n S = by_tests st.begun (sets r) p n S
 
 -- ---- the pairs
 
-waiting_sound : (r : Record) → WaitingFields r → minute r ≤ 100000000 → WaitingSound (waiting_of r)
+waiting_sound : (r : Record) → WaitingFields r → minute r ≤ minute_limit → WaitingSound (waiting_of r)
 unfolding waiting_of
 waiting_sound r F h = record { start = omega arith; end = h; pair = F.pair }
 

@@ -1,12 +1,12 @@
 -- What owning a state tells: its array has thirty places. And the figures of the pairs that wait.
-use mathlib.Core.Path.{◌≡◌, sym, ap, ◌∙◌}
+use mathlib.Core.Path.{◌≡◌, ap, ◌∙◌}
 use mathlib.Core.List.{List, map}
 use lib.ListN.{length, take}
 use mir.Val.{Val}
+use Rattle.std.proofs.lemmas.List.{take-map}
 use denote.Laws.{Is}
 use denote.Struct.Declared.{row}
 use Rattle.calibration.specs.declared.pairs.Pair.{Pair}
-use Rattle.records.specs.ListLaws.{map_take}
 use Rattle.records.specs.Table.{pair_of_waiting}
 use Rattle.records.specs.declared.state.State.{State}
 use Rattle.records.specs.contracts.state.State.{the_type}
@@ -16,4 +16,4 @@ thirty st vs g = g.1.1.1.1.1.1.1.1.1.1.0.1.0.1
 
 pub waiting_figures : (st : State) {ps : List Pair} → ps ≡ map pair_of_waiting st.pairs
     → take st.pending ps ≡ map pair_of_waiting (take st.pending st.pairs)
-waiting_figures st e = ap (take st.pending) e ∙ sym (map_take pair_of_waiting st.pending st.pairs)
+waiting_figures st e = ap (take st.pending) e ∙ take-map pair_of_waiting st.pending st.pairs

@@ -1,66 +1,46 @@
 -- What the table says of a record that it does not refuse.
-use Rattle.std.specs.Prelude.{◌≡◌, refl, Bool, true, false, not, ◌&&◌, List, map, ℕ, ◌-◌, ◌*◌, ◌≤◌, ◌<◌, T, leb, ltb, eqb, ℤ, pos, length, if◌then◌else◌, None, Some}
-use Rattle.std.proofs.Common.{sym, ap, subst, ◌∙◌, arith, leb-false, eqb-true, ne_eqb}
-use Rattle.std.proofs.lemmas.Bool.{not-false, eqb-false}
+use Rattle.std.specs.Prelude.{◌≡◌, refl, Bool, true, false, not, ◌&&◌, List, map, ℕ, ◌-◌, ◌*◌, ◌≤◌, ◌<◌, leb, ltb, eqb, ℤ, pos, length, if◌then◌else◌, None, Some}
+use Rattle.std.proofs.Common.{sym, ap, ◌∙◌, arith, ne_eqb}
+use Rattle.std.proofs.lemmas.Bool.{and_parts, or_parts, leb-false, leb-true, ltb-false, not-false}
 use Rattle.std.proofs.lemmas.List.{length-map}
 use Rattle.std.specs.Int.Signed.{le_z}
-use Rattle.std.proofs.Math.Facts.{and_yes, or_no, leb_yes, ltb_no}
-use Rattle.charts.specs.Tests.{if_all}
+use Rattle.refusals.proofs.RowLaws.{row_passed, rows_passed, unfit}
+use Rattle.charts.specs.Tests.{if_all, sure_of}
 use Rattle.calibration.specs.Calibration.{count_fits, divisor_of, fit_from, fit_of, flat_of, line_fits, refused_fit, slope_of, slope_ranged_of, some_beyond, sums_of}
 use Rattle.calibration.specs.Outcomes.{Fitted}
 use Rattle.calibration.specs.declared.line.Line.{Line}
 use Rattle.calibration.specs.declared.pairs.Pair.{Pair}
 use Rattle.calibration.specs.declared.pairs.Requirements.{Requirements}
-use Rattle.records.specs.Record.{Record, kind, mark, minute, formed_of, ranged_of, field, long_field, length_of, coverage_of, z_of, function_of}
+use Rattle.records.specs.Record.{Record, kind, mark, minute, minute_limit, formed_of, ranged_of, field, long_field, length_of, coverage_of, z_of, function_of}
 use Rattle.records.specs.Kinds.{response_of, line_of, Calibration}
 use Rattle.records.proofs.SignedLaws.{same_is}
 use Rattle.records.specs.Table.{Facts, misplaced, untimely, chart_refusal, reading_refusal, last_of, follows, times_fit, pair_refusal, days_fit, pair_of_waiting, calibration_of, annual_by, annual_of, sameℤ, pass_mark, stores_fit, stores_test, calibration_refusal, annual_refusal, in_force, value_refusal, kind_refusal, refusal_in}
-
--- ---- a row that was passed
-
-passed_row : (b : Bool) (n x : ℕ) → 0 < n → (if b then n else x) ≡ 0 → (b ≡ false) × (x ≡ 0)
-passed_row true n x h e = absurd (omega arith)
-passed_row false n x h e = (refl, e)
-
--- a row with an outcome's own refusal
-passed_own : (n x : ℕ) → (if not (eqb n 0) then n else x) ≡ 0 → (n ≡ 0) × (x ≡ 0)
-passed_own n x e = by_test (eqb n 0) refl e
-  where
-    by_test : (b : Bool) → eqb n 0 ≡ b → (if not b then n else x) ≡ 0 → (n ≡ 0) × (x ≡ 0)
-    by_test true t e = (eqb-true n 0 t, e)
-    by_test false t e = absurd (eqb-false n 0 t e)
-
-yes : {b : Bool} → b ≡ true → T b
-yes h = subst T (sym h) tt
-
-no : {b : Bool} → b ≡ false → T (not b)
-no h = subst (λ (b : Bool). T (not b)) (sym h) tt
 
 -- ---- the rows of every record
 
 pub record Accepted (f : Facts) (r : Record) : Type 0 where
   pub formed : formed_of r ≡ true
   pub placed : misplaced f r ≡ false
-  pub timely : untimely f r ≡ false
+  pub timely : untimely f (minute r) ≡ false
   pub since : f.minute ≤ minute r
-  pub until : minute r ≤ 100000000
+  pub until : minute r ≤ minute_limit
   pub ranged : ranged_of r ≡ true
   pub passed : kind_refusal f r ≡ 0
 
 pub accepted : (f : Facts) (r : Record) → refusal_in f r ≡ 0 → Accepted f r
 unfolding refusal_in untimely
 accepted f r e =
-    let a = passed_row (not (formed_of r)) 10 _ (omega arith) e in
-    let b = passed_row (misplaced f r) 11 _ (omega arith) a.1 in
-    let c = passed_row (untimely f r) 12 _ (omega arith) b.1 in
-    let d = passed_row (not (ranged_of r)) 13 _ (omega arith) c.1 in
-    let t = or_no (ltb (minute r) f.minute) (ltb 100000000 (minute r)) (no c.0) in
+    let a = row_passed 10 (not (formed_of r)) tt e in
+    let b = row_passed 11 (misplaced f r) tt a.1 in
+    let c = row_passed 12 (untimely f (minute r)) tt b.1 in
+    let d = row_passed 13 (not (ranged_of r)) tt c.1 in
+    let t = or_parts (ltb (minute r) f.minute) (ltb minute_limit (minute r)) c.0 in
     record {
       formed = not-false (formed_of r) a.0;
       placed = b.0;
       timely = c.0;
-      since = ltb_no t.0;
-      until = ltb_no t.1;
+      since = ltb-false (minute r) f.minute t.0;
+      until = ltb-false minute_limit (minute r) t.1;
       ranged = not-false (ranged_of r) d.0;
       passed = d.1;
     }
@@ -96,9 +76,8 @@ pub record Open (b : Bool) (n : ℕ) : Type 0 where
 chart_open : (started : Bool) (readings : ℕ) → chart_refusal started readings ≡ 0 → Open started readings
 unfolding chart_refusal
 chart_open started readings e =
-    let a = passed_row (not started) 14 _ (omega arith) e in
-    let b = passed_row (leb 100000 readings) 15 _ (omega arith) a.1 in
-    record { started = not-false started a.0; room = leb-false 100000 readings b.0 }
+    let a = row_passed 14 (not started) tt e in
+    record { started = not-false started a.0; room = leb-false 100000 readings (unfit 15 (leb 100000 readings) tt a.1) }
 
 module _ (f : Facts) (r : Record) (e : reading_refusal f r ≡ 0) where
   pub zero_open : mark r ≡ 0 → Open f.zero_started f.zero_readings
@@ -118,26 +97,21 @@ pub record PairPasses (f : Facts) (r : Record) : Type 0 where
 pub pair_passes : (f : Facts) (r : Record) → pair_refusal f r ≡ 0 → PairPasses f r
 unfolding pair_refusal times_fit
 pair_passes f r e =
-    let a = passed_row (leb 30 (length f.pending)) 18 _ (omega arith) e in
-    let b = passed_row (not (times_fit f r)) 16 _ (omega arith) a.1 in
-    let c = passed_row (le_z (coverage_of r) (pos 90)) 17 0 (omega arith) b.1 in
+    let a = row_passed 18 (leb 30 (length f.pending)) tt e in
+    let b = row_passed 16 (not (times_fit f r)) tt a.1 in
     let t = not-false (times_fit f r) b.0 in
-    let u = and_yes (leb (4 * response_of f.setting) (length_of r)) _ (yes t) in
-    let v = and_yes (leb (length_of r) (minute r)) (follows (last_of f.pending) (minute r - length_of r) (length_of r)) u.1 in
+    let u = and_parts (leb (4 * response_of f.setting) (length_of r)) _ t in
+    let v = and_parts (leb (length_of r) (minute r)) (follows (last_of f.pending) (minute r - length_of r) (length_of r)) u.1 in
     record {
       room = leb-false 30 (length f.pending) a.0;
       times = t;
-      starts = leb_yes v.0;
-      coverage = c.0;
+      starts = leb-true (length_of r) (minute r) v.0;
+      coverage = unfit 17 (le_z (coverage_of r) (pos 90)) tt b.1;
     }
 
 pub value_passes : (f : Facts) → value_refusal f ≡ 0 → in_force f.calibration ≡ true
 unfolding value_refusal
-value_passes f e = by_test (in_force f.calibration) e
-  where
-    by_test : (b : Bool) → ◌≡◌ {A = ℕ} (if b then 0 else 19) 0 → b ≡ true
-    by_test true e = refl
-    by_test false e = absurd (omega arith)
+value_passes f e = not-false (in_force f.calibration) (unfit 19 (not (in_force f.calibration)) tt e)
 
 -- ---- closings
 
@@ -161,8 +135,8 @@ pub calibration_passes : (f : Facts) (r : Record) → calibration_refusal f r �
 unfolding calibration_refusal calibration_of
 calibration_passes f r e =
     let c = calibration_of f (z_of r) in
-    let o = passed_own c.refusal _ e in
-    let s = passed_row (not (stores_fit c r)) 25 0 (omega arith) o.1 in
+    let o = rows_passed c.refusal e in
+    let s = unfit 25 (not (stores_fit c r)) tt o.1 in
     let a = passed_fit (not (count_fits (length f.pending))) 20 (if not (days_fit f.pending) then refused_fit 21 else fit_over f r) (omega arith) o.0 in
     let b = passed_fit (not (days_fit f.pending)) 21 (fit_over f r) (omega arith) (sym (ap (λ (t : Fitted). t.refusal) a.1) ∙ o.0) in
     let g : c ≡ fit_over f r = a.1 ∙ b.1 in
@@ -171,7 +145,7 @@ calibration_passes f r e =
       days = not-false (days_fit f.pending) b.0;
       fitted = g;
       fits = sym (ap (λ (t : Fitted). t.refusal) g) ∙ o.0;
-      stores = sym (ap (λ (t : Fitted). stores_fit t r) g) ∙ not-false (stores_fit c r) s.0;
+      stores = sym (ap (λ (t : Fitted). stores_fit t r) g) ∙ not-false (stores_fit c r) s;
     }
 
 -- a calibration closing counts no more pairs than wait
@@ -207,10 +181,10 @@ unfolding stores_fit line_of function_of
 stored_line c r h =
     let marked = eqb (mark r) (pass_mark c) && sameℤ (field r 12) c.line.slope in
     let rest = sameℤ (field r 24) c.top.0 && sameℤ (field r 28) (pos c.count) in
-    let p = and_yes marked (sameℤ (long_field r 16) c.line.intercept && rest) (yes h) in
-    let b = and_yes (eqb (mark r) (pass_mark c)) (sameℤ (field r 12) c.line.slope) p.0 in
-    let a = and_yes (sameℤ (long_field r 16) c.line.intercept) rest p.1 in
-    rw (same_is (field r 12) c.line.slope b.1, same_is (long_field r 16) c.line.intercept a.0)
+    let p = and_parts marked (sameℤ (long_field r 16) c.line.intercept && rest) h in
+    let b = and_parts (eqb (mark r) (pass_mark c)) (sameℤ (field r 12) c.line.slope) p.0 in
+    let a = and_parts (sameℤ (long_field r 16) c.line.intercept) rest p.1 in
+    rw (same_is (field r 12) c.line.slope (sure_of b.1), same_is (long_field r 16) c.line.intercept (sure_of a.0))
 
 pub record AnnualPasses (f : Facts) (r : Record) : Type 0 where
   pub in_force : in_force f.calibration ≡ true
@@ -220,9 +194,9 @@ pub record AnnualPasses (f : Facts) (r : Record) : Type 0 where
 pub annual_passes : (f : Facts) (r : Record) → annual_refusal f r ≡ 0 → AnnualPasses f r
 unfolding annual_refusal annual_by
 annual_passes f r e =
-    let o = passed_own (annual_of f).refusal _ e in
-    let s = passed_row (not (stores_test (annual_of f) (length f.pending) r)) 25 0 (omega arith) o.1 in
-    record { in_force = by_function f.calibration o.0; tests = o.0; stores = not-false (stores_test (annual_of f) (length f.pending) r) s.0 }
+    let o = rows_passed (annual_of f).refusal e in
+    let s = unfit 25 (not (stores_test (annual_of f) (length f.pending) r)) tt o.1 in
+    record { in_force = by_function f.calibration o.0; tests = o.0; stores = not-false (stores_test (annual_of f) (length f.pending) r) s }
   where
     by_function : (k : Calibration) → (annual_by k f).refusal ≡ 0 → in_force k ≡ true
     by_function None e = absurd (omega arith)

@@ -5,7 +5,7 @@ use Rattle.std.proofs.Math.Bool.{and_assoc}
 use Rattle.std.proofs.Math.Seq.{drop-append-add}
 use Rattle.std.proofs.lemmas.List.{append-nil, get_or-drop}
 use Rattle.std.proofs.lemmas.Nat.{le_bytes_2, le_bytes_4}
-use Rattle.charts.specs.Tests.{and_both}
+use Rattle.std.proofs.lemmas.Bool.{and_parts}
 use Rattle.records.specs.Bytes.{AllBytes, le16, le32, all_zero, written, bytes16, bytes32}
 use Rattle.records.specs.LittleEndian.{from_le_bytes_16, from_le_bytes_32, to_le_bytes_16, to_le_bytes_32}
 
@@ -118,5 +118,5 @@ pub zero_is : (l : List ℕ) → all_zero l ≡ true → l ≡ replicate (length
 unfolding all_zero
 zero_is [] h = refl
 zero_is (x ∷ l) h =
-    let both = and_both (eqb x 0) (all_zero l) h in
+    let both = and_parts (eqb x 0) (all_zero l) h in
     rw (eqb-true x 0 both.0) (ap (λ (r : List ℕ). 0 ∷ r) (zero_is l both.1))

@@ -11,7 +11,6 @@ pub mod State
 pub mod StateParts
 pub mod Soundness
 pub mod InPlace
-pub mod ListLaws
 pub mod WeekLaws
 pub mod Agreement
 pub mod Answers

@@ -23,6 +23,10 @@ mark r = byte_at r 1
 unfoldable pub minute : Record → ℕ
 minute r = le32 r 4
 
+-- the last minute that a record may have
+abbrev pub minute_limit : ℕ
+minute_limit = 100000000
+
 -- a signed number of 32 bits, and one of 64, from the unsigned number that has the same bits
 unfoldable pub signed32 : ℕ → ℤ
 signed32 n = if ltb n 2147483648 then pos n else negsuc (4294967295 - n)

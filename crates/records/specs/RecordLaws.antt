@@ -1,17 +1,14 @@
 -- What the tests of a record say of its fields.
 use Rattle.std.specs.Prelude.{◌≡◌, Bool, true, ◌&&◌, ◌≤◌, T, eqb, drop, pos, neg_ℤ, nat_abs}
-use Rattle.std.proofs.Common.{sym, subst, arith}
+use Rattle.std.proofs.Common.{arith}
 use Rattle.charts.specs.Tests.{Answers, answers_and, answers_le}
+pub use Rattle.charts.specs.Tests.{holds}
 use Rattle.charts.specs.Integers.{diff, le_ud, ud_le}
 use Rattle.charts.specs.Soundness.{Ranged}
 use Rattle.calibration.specs.Pairs.{Between, between_answers, ConditionsRanged, conditions_answers, PairRanged, pair_answers, RequirementsRanged, requirements_answers, ZRanged, z_ranged_of}
 use Rattle.calibration.proofs.RangeLaws.{between_abs, between_size}
 use Rattle.records.specs.Bytes.{byte_at, all_zero}
 use Rattle.records.specs.Record.{Record, kind, mark, field, mark_limit, fields_end, plain_of, formed_of, requirements_of, difference_of, length_of, coverage_of, pair_of, z_of, signal_of, value_conditions, setting_ranged, reading_ranged, waiting_ranged, value_ranged, ranged_of}
-
--- what a test answers, where it is true
-pub holds : {b : Bool} {P : Type 0} → Answers b P → b ≡ true → P
-holds e h = e.sure (subst T (sym h) tt)
 
 -- ---- the fields of a kind in their ranges
 

@@ -6,6 +6,7 @@ use Rattle.charts.specs.Soundness as C
 use Rattle.calibration.specs.Pairs.{PairRanged, pair_ranged_of, pair_answers, RequirementsRanged, requirements_ranged_of, requirements_answers}
 use Rattle.calibration.specs.Calibration.{LineRanged, line_ranged_of}
 use Rattle.calibration.proofs.RangeLaws.{line_answers}
+use Rattle.records.specs.Record.{minute_limit}
 use Rattle.records.specs.Kinds.{line_of, Calibration}
 use Rattle.records.specs.declared.state.Setting.{Setting}
 use Rattle.records.specs.declared.state.Waiting.{Waiting}
@@ -33,17 +34,17 @@ setting_answers s =
 
 -- a pair that waits: its figures in their ranges, its times no later than the last minute there is
 pub record WaitingSound (w : Waiting) : Type 0 where
-  pub start : w.start ≤ 100000000
-  pub end : w.end ≤ 100000000
+  pub start : w.start ≤ minute_limit
+  pub end : w.end ≤ minute_limit
   pub pair : PairRanged w.pair
 
 unfoldable pub waiting_sound_of : Waiting → Bool
-waiting_sound_of w = (leb w.start 100000000 && leb w.end 100000000) && pair_ranged_of w.pair
+waiting_sound_of w = (leb w.start minute_limit && leb w.end minute_limit) && pair_ranged_of w.pair
 
 pub waiting_answers : (w : Waiting) → Answers (waiting_sound_of w) (WaitingSound w)
 unfolding waiting_sound_of
 waiting_answers w =
-    answers_as (answers_and (answers_and (answers_le w.start 100000000) (answers_le w.end 100000000)) (pair_answers w.pair))
+    answers_as (answers_and (answers_and (answers_le w.start minute_limit) (answers_le w.end minute_limit)) (pair_answers w.pair))
     (λ p. record { start = p.0.0; end = p.0.1; pair = p.1 })
     (λ r. ((r.start, r.end), r.pair))
 
@@ -86,7 +87,7 @@ begun_answers false s = record { sure = λ t. tt; back = λ u. tt }
 begun_answers true s = setting_answers s
 
 pub record Sound (most : ℕ) (st : State) : Type 0 where
-  pub minute : st.minute ≤ 100000000
+  pub minute : st.minute ≤ minute_limit
   pub setting : BegunSound st.begun st.setting
   pub zero : C.Sound st.zero
   pub span : C.Sound st.span
@@ -97,9 +98,16 @@ pub record Sound (most : ℕ) (st : State) : Type 0 where
   pub outside : st.outside ≤ most
   pub over : st.over ≤ most
 
+-- The counts leave room for one record more, in 32 bits. No list of calls comes near: it has at most 12,000,000 records.
+abbrev pub count_limit : ℕ
+count_limit = 4000000000
+
+abbrev pub Fitting : State → Type 0
+Fitting st = Sound count_limit st
+
 unfoldable pub sound_of : ℕ → State → Bool
 sound_of most st =
-    (((leb st.minute 100000000 && begun_sound_of st.begun st.setting) && (C.sound_of st.zero && C.sound_of st.span))
+    (((leb st.minute minute_limit && begun_sound_of st.begun st.setting) && (C.sound_of st.zero && C.sound_of st.span))
     && ((leb st.pending 30 && all_sound_of (take st.pending st.pairs)) && calibration_sound_of st.calibration))
     && ((leb st.total most && leb st.outside most) && leb st.over most)
 
@@ -109,7 +117,7 @@ sound_answers most st =
     answers_as
     (answers_and
     (answers_and
-    (answers_and (answers_and (answers_le st.minute 100000000) (begun_answers st.begun st.setting)) (answers_and (C.sound_answers st.zero) (C.sound_answers st.span)))
+    (answers_and (answers_and (answers_le st.minute minute_limit) (begun_answers st.begun st.setting)) (answers_and (C.sound_answers st.zero) (C.sound_answers st.span)))
     (answers_and (answers_and (answers_le st.pending 30) (all_answers (take st.pending st.pairs))) (calibration_answers st.calibration)))
     (answers_and (answers_and (answers_le st.total most) (answers_le st.outside most)) (answers_le st.over most)))
     (λ p. record {

@@ -4,12 +4,13 @@
 use Rattle.std.specs.Prelude.{Bool, true, false, not, ◌&&◌, ◌||◌, List, [], ◌∷◌, map, ℕ, suc, ◌+◌, ◌-◌, ◌*◌, leb, ltb, eqb, ℤ, pos, length, if◌then◌else◌, None, Some}
 use Rattle.std.proofs.Math.Option.{Option, none, some}
 use Rattle.std.specs.Int.Signed.{le_z}
+use Rattle.refusals.specs.Rows.{◌when◌, ◌or◌}
 use Rattle.calibration.specs.Calibration.{count_fits, fit_of, refused_fit}
 use Rattle.calibration.specs.Annual.{test_of, refused_test}
 use Rattle.calibration.specs.declared.pairs.Pair.{Pair}
 use Rattle.calibration.specs.Outcomes.{Fitted}
 use Rattle.calibration.specs.Outcomes.{Tested}
-use Rattle.records.specs.Record.{Record, kind, mark, minute, field, long_field, formed_of, ranged_of, length_of, coverage_of, z_of}
+use Rattle.records.specs.Record.{Record, kind, mark, minute, minute_limit, field, long_field, formed_of, ranged_of, length_of, coverage_of, z_of}
 use Rattle.records.specs.Kinds.{sets, day_of, response_of, line_of, Calibration}
 use Rattle.records.specs.declared.state.Setting.{Setting}
 use Rattle.records.specs.declared.state.Waiting.{Waiting}
@@ -36,17 +37,16 @@ pub record Facts : Type 0 where
 unfoldable pub misplaced : Facts → Record → Bool
 misplaced f r = if f.begun then sets r else not (sets r)
 
--- out of the order of minutes, or past the last minute there is
-unfoldable pub untimely : Facts → Record → Bool
-untimely f r = ltb (minute r) f.minute || ltb 100000000 (minute r)
+-- a minute before that of the last record, or past the last one there is
+unfoldable pub untimely : Facts → ℕ → Bool
+untimely f m = ltb m f.minute || ltb minute_limit m
 
 -- ---- 14, 15
 
 unfoldable pub chart_refusal : Bool → ℕ → ℕ
 chart_refusal started readings =
-    if not started then 14
-    else (if leb 100000 readings then 15
-    else 0)
+    14 when not started
+    or 15 when leb 100000 readings
 
 unfoldable pub reading_refusal : Facts → Record → ℕ
 reading_refusal f r =
@@ -76,10 +76,9 @@ times_fit f r =
 
 unfoldable pub pair_refusal : Facts → Record → ℕ
 pair_refusal f r =
-    if leb 30 (length f.pending) then 18
-    else (if not (times_fit f r) then 16
-    else (if le_z (coverage_of r) (pos 90) then 17
-    else 0))
+    18 when leb 30 (length f.pending)
+    or 16 when not (times_fit f r)
+    or 17 when le_z (coverage_of r) (pos 90)
 
 -- ---- 19 of an annual closing, 20 to 24
 
@@ -143,9 +142,8 @@ stores_fit c r =
 unfoldable pub calibration_refusal : Facts → Record → ℕ
 calibration_refusal f r =
     let c : Fitted = calibration_of f (z_of r) in
-    if not (eqb c.refusal 0) then c.refusal
-    else (if not (stores_fit c r) then 25
-    else 0)
+    c.refusal
+    or 25 when not (stores_fit c r)
 
 -- the mark of an annual closing: a bit for each verdict
 abbrev pub test_mark : Tested → ℕ
@@ -157,9 +155,8 @@ stores_test t n r = eqb (mark r) (test_mark t) && sameℤ (field r 8) (pos n)
 unfoldable pub annual_refusal : Facts → Record → ℕ
 annual_refusal f r =
     let t : Tested = annual_of f in
-    if not (eqb t.refusal 0) then t.refusal
-    else (if not (stores_test t (length f.pending) r) then 25
-    else 0)
+    t.refusal
+    or 25 when not (stores_test t (length f.pending) r)
 
 -- ---- 19 for a value
 
@@ -168,7 +165,7 @@ in_force None = false
 in_force (Some f) = true
 
 unfoldable pub value_refusal : Facts → ℕ
-value_refusal f = if in_force f.calibration then 0 else 19
+value_refusal f = 19 when not (in_force f.calibration)
 
 -- ---- the table, downwards: the first row that fits; 0 where none does
 
@@ -183,8 +180,8 @@ kind_refusal f r =
 
 unfoldable pub refusal_in : Facts → Record → ℕ
 refusal_in f r =
-    if not (formed_of r) then 10
-    else (if misplaced f r then 11
-    else (if untimely f r then 12
-    else (if not (ranged_of r) then 13
-    else kind_refusal f r)))
+    10 when not (formed_of r)
+    or 11 when misplaced f r
+    or 12 when untimely f (minute r)
+    or 13 when not (ranged_of r)
+    or kind_refusal f r

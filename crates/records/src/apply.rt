@@ -4,7 +4,7 @@ ghost use Rattle.std.specs.Prelude.{◌≡◌, ◌≢◌, true, false, ◌+◌, 
 ghost use Rattle.charts.specs.Soundness.{Sound as Charts-as-Sound};
 ghost use Rattle.records.specs.Record.{mark, minute, reading_ranged, value_ranged};
 ghost use Rattle.records.specs.Kinds.{exceeds as Kinds·exceeds, outside_by};
-ghost use Rattle.records.specs.Soundness.{CalibrationSound, SettingSound, Sound};
+ghost use Rattle.records.specs.Soundness.{CalibrationSound, Fitting, SettingSound};
 ghost use Rattle.records.specs.Table.{reading_refusal, refusal_in};
 ghost use Rattle.records.specs.State.{applied_to, facts_of, initial_of, judges as State·judges, no_pair, raised_of};
 ghost use Rattle.records.specs.InPlace.{InWeek, in_week_of};
@@ -247,7 +247,7 @@ fn with_closing<F: FnOnce(State) -> State>(st: State, r: &[u8; 40], pass: u8, pa
 
 // An accepted record: the week is judged first, then the kind is applied; the table accepts kinds 1 to 8 only.
 pub fn apply(st: State, r: &[u8; 40]) -> State
-    requires { Sound 4000000000 st × (refusal_in (facts_of st) r.now ≡ 0) }
+    requires { Fitting st × (refusal_in (facts_of st) r.now ≡ 0) }
     ensures { result ≡ applied_to st r.now }
 {
     let s = judged(st, bytes::read32(r, 4));

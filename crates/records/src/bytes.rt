@@ -1,5 +1,5 @@
 // Numbers in bytes, unsigned and with the low byte first. Bytes and a place go side by side: a type for the two would be made for one read.
-ghost use Rattle.std.specs.Prelude.{◌≡◌, ◌+◌, ◌≤◌, ◌<◌, length, take, drop, replicate};
+ghost use Rattle.std.specs.Prelude.{◌≡◌, ◌+◌, ◌≤◌, length, take, drop};
 ghost use Rattle.records.specs.Bytes.{all_zero, bytes16, bytes32, le16, le32, part, written};
 
 // So many bytes from a place on.
@@ -8,13 +8,6 @@ pub(crate) fn chunk<const N: usize>(bytes: &[u8], at: usize) -> [u8; N]
     ensures { result ≡ take N (drop at bytes.now) }
 {
     *bytes[at..].first_chunk().unwrap()
-}
-
-// A byte as a length.
-pub fn wide(byte: u8) -> usize
-    ensures { (result ≡ byte) × (result < 256) }
-{
-    usize::from(byte)
 }
 
 // The number in two bytes. Two and four bytes have a function each, here, below and in `fields`: each is one call of the library, and a trait over the two widths is longer
@@ -64,12 +57,4 @@ pub fn copy(target: &mut [u8], at: usize, source: &[u8])
     ensures { target.new ≡ written target.old at source.now }
 {
     target[at..at + source.len()].copy_from_slice(source);
-}
-
-// Bytes from a place on are made zero.
-pub fn clear(target: &mut [u8], at: usize, count: usize)
-    requires { at + count ≤ length target.old }
-    ensures { target.new ≡ written target.old at (replicate count 0) }
-{
-    target[at..at + count].fill(0);
 }

@@ -2,9 +2,9 @@
 // `apply`; a type for a pair's record with its ranges would be made at each call.
 ghost use Rattle.std.specs.Prelude.{◌≡◌, true, false, not, map, ◌+◌, ◌-◌, ◌*◌, ◌<◌, ◌≤◌, length, if◌then◌else◌};
 ghost use Rattle.refusals.specs.Rows.{outcome_of};
-ghost use Rattle.records.specs.Record.{kind, length_of, minute, ranged_of, waiting_ranged};
+ghost use Rattle.records.specs.Record.{kind, length_of, minute, minute_limit, ranged_of, waiting_ranged};
 ghost use Rattle.records.specs.Kinds.{response_of, sets};
-ghost use Rattle.records.specs.Soundness.{SettingSound, Sound};
+ghost use Rattle.records.specs.Soundness.{Fitting, SettingSound};
 ghost use Rattle.records.specs.Table.{among as Table·among, chart_refusal, days_fit, different, end_day, follows_one, last_of, misplaced as Table·misplaced, pair_of_waiting, pair_refusal, reading_refusal, times_fit, untimely as Table·untimely, value_refusal};
 ghost use Rattle.records.specs.State.{facts_of};
 
@@ -14,6 +14,9 @@ use calibration::Pair;
 use charts::Chart;
 use refusals::Refusal;
 
+// The last minute that a record may have.
+pub const MINUTE_LIMIT: u32 = 100000000;
+
 // A setting that is not the first record, or a first record that is no setting.
 #[tactic(auto, unfolding(crate::specs::Table::misplaced, crate::specs::State::facts_of, crate::specs::Kinds::sets, crate::specs::Record::kind))]
 pub fn misplaced(st: State, r: &[u8; 40]) -> bool
@@ -22,13 +25,12 @@ pub fn misplaced(st: State, r: &[u8; 40]) -> bool
     st.begun == (r[0] == 1)
 }
 
-// Before the last record's minute, or over 100,000,000.
-#[tactic(auto, unfolding(crate::specs::Table::untimely, crate::specs::State::facts_of, crate::specs::Record::minute))]
-pub fn untimely(st: State, r: &[u8; 40]) -> bool
-    ensures { result ≡ Table·untimely (facts_of st) r.now }
+// A minute before that of the last record, or past the last one there is.
+#[tactic(auto, unfolding(crate::specs::Table::untimely, crate::specs::State::facts_of))]
+pub fn untimely(st: State, minute: u32) -> bool
+    ensures { result ≡ Table·untimely (facts_of st) minute }
 {
-    let m = bytes::read32(r, 4);
-    (m < st.minute) | (100000000 < m)
+    (minute < st.minute) | (MINUTE_LIMIT < minute)
 }
 
 #[tactic(auto, unfolding(crate::specs::Table::chart_refusal))]
@@ -68,7 +70,7 @@ fn response(s: Setting) -> u32
 // Whether a pair starts late enough after the one before it.
 #[tactic(auto, unfolding(crate::specs::Table::follows_one))]
 fn follows(w: Waiting, start: u32, length: u32) -> bool
-    requires { w.start ≤ 100000000 }
+    requires { w.start ≤ minute_limit }
     ensures { result ≡ follows_one w start length }
 {
     (w.end <= start) & ((60 <= length) | (w.start + 60 < start))
@@ -76,7 +78,7 @@ fn follows(w: Waiting, start: u32, length: u32) -> bool
 
 #[tactic(auto, unfolding(crate::specs::Table::times_fit, crate::specs::State::facts_of, crate::specs::Record::minute, crate::specs::Table::follows))]
 fn times_fit(st: State, r: &[u8; 40]) -> bool
-    requires { Sound 4000000000 st × SettingSound st.setting × (waiting_ranged r.now ≡ true) }
+    requires { Fitting st × SettingSound st.setting × (waiting_ranged r.now ≡ true) }
     ensures { result ≡ times_fit (facts_of st) r.now }
 {
     let m = bytes::read32(r, 4);
@@ -96,7 +98,7 @@ fn times_fit(st: State, r: &[u8; 40]) -> bool
 
 #[tactic(auto, unfolding(crate::specs::Table::pair_refusal, crate::specs::State::facts_of, crate::specs::Record::coverage_of))]
 pub fn pair_refusal(st: State, r: &[u8; 40]) -> Result<(), Refusal>
-    requires { Sound 4000000000 st × SettingSound st.setting × (waiting_ranged r.now ≡ true) }
+    requires { Fitting st × SettingSound st.setting × (waiting_ranged r.now ≡ true) }
     ensures { outcome_of result ≡ pair_refusal (facts_of st) r.now }
 {
     if 30 <= st.pending {

@@ -1,12 +1,12 @@
 // Closings: the figures that the pairs that wait give, and whether a stored closing has them. State and record stay two, as in `apply`.
-ghost use Rattle.std.specs.Prelude.{◌≡◌, Ok, ◌≤◌, if◌then◌else◌, map, not, take};
-ghost use Rattle.refusals.specs.Rows.{outcome_of};
+ghost use Rattle.std.specs.Prelude.{◌≡◌, Ok, ◌≤◌, map, not, take};
+ghost use Rattle.refusals.specs.Rows.{outcome_of, ◌when◌};
 ghost use Rattle.calibration.specs.Pairs.{ZRanged};
 ghost use Rattle.calibration.specs.Calibration.{LineRanged};
 ghost use Rattle.calibration.specs.Annual.{test_of};
 ghost use Rattle.calibration.specs.Outcomes.{fitted, tested};
 ghost use Rattle.records.specs.Record.{z_of};
-ghost use Rattle.records.specs.Soundness.{SettingSound, Sound};
+ghost use Rattle.records.specs.Soundness.{Fitting, SettingSound};
 ghost use Rattle.records.specs.Kinds.{line_of};
 ghost use Rattle.records.specs.Table.{annual_of, annual_refusal, calibration_of, calibration_refusal, pair_of_waiting, pass_mark, stores_fit, stores_test, test_mark};
 ghost use Rattle.records.specs.State.{facts_of};
@@ -28,7 +28,7 @@ fn basis(st: State) -> Basis
 
 // A calibration closing over the pairs that wait.
 pub fn calibration_result(st: State, z: i32) -> Result<Figures, Refusal>
-    requires { Sound 4000000000 st × SettingSound st.setting × ZRanged z }
+    requires { Fitting st × SettingSound st.setting × ZRanged z }
     ensures { fitted result ≡ calibration_of (facts_of st) z }
 {
     let n = st.pending as usize;
@@ -43,7 +43,7 @@ pub fn calibration_result(st: State, z: i32) -> Result<Figures, Refusal>
 }
 
 fn test_with(st: State, f: Function) -> Result<Verdicts, Refusal>
-    requires { Sound 4000000000 st × SettingSound st.setting × LineRanged (line_of f) }
+    requires { Fitting st × SettingSound st.setting × LineRanged (line_of f) }
     ensures { tested result ≡ test_of st.edition st.setting.requirements (line_of f) (map pair_of_waiting (take st.pending st.pairs)) }
 {
     let n = st.pending as usize;
@@ -54,7 +54,7 @@ fn test_with(st: State, f: Function) -> Result<Verdicts, Refusal>
 // An annual closing over the pairs that wait, with the function in force.
 #[tactic(auto, unfolding(crate::specs::Table::annual_by, crate::specs::State::facts_of))]
 pub fn annual_result(st: State) -> Result<Verdicts, Refusal>
-    requires { Sound 4000000000 st × SettingSound st.setting }
+    requires { Fitting st × SettingSound st.setting }
     ensures { tested result ≡ annual_of (facts_of st) }
 {
     match st.calibration {
@@ -98,7 +98,7 @@ fn stores_test(t: Verdicts, n: u32, r: &[u8; 40]) -> bool
 
 // Row 25, where what is stored is not what was worked out.
 fn stored(fits: bool) -> Result<(), Refusal>
-    ensures { outcome_of result ≡ (if not fits then 25 else 0) }
+    ensures { outcome_of result ≡ (25 when not fits) }
 {
     if !fits {
         return Err(Refusal::Stored);
@@ -108,7 +108,7 @@ fn stored(fits: bool) -> Result<(), Refusal>
 
 #[tactic(auto, unfolding(crate::specs::Table::calibration_refusal, crate::specs::Record::z_of, crate::specs::State::facts_of))]
 pub fn calibration_refusal(st: State, r: &[u8; 40]) -> Result<(), Refusal>
-    requires { Sound 4000000000 st × SettingSound st.setting × ZRanged (z_of r.now) }
+    requires { Fitting st × SettingSound st.setting × ZRanged (z_of r.now) }
     ensures { outcome_of result ≡ calibration_refusal (facts_of st) r.now }
 {
     let c = calibration_result(st, fields::field_at(r, 8))?;
@@ -117,7 +117,7 @@ pub fn calibration_refusal(st: State, r: &[u8; 40]) -> Result<(), Refusal>
 
 #[tactic(auto, unfolding(crate::specs::Table::annual_refusal, crate::specs::State::facts_of))]
 pub fn annual_refusal(st: State, r: &[u8; 40]) -> Result<(), Refusal>
-    requires { Sound 4000000000 st × SettingSound st.setting }
+    requires { Fitting st × SettingSound st.setting }
     ensures { outcome_of result ≡ annual_refusal (facts_of st) r.now }
 {
     let t = annual_result(st)?;

@@ -2,6 +2,7 @@
 ghost use Rattle.std.specs.Prelude.{◌≡◌};
 ghost use Rattle.records.specs.Soundness.{all_sound_of, begun_sound_of, calibration_sound_of, setting_sound_of, sound_of, waiting_sound_of};
 
+use crate::checks::MINUTE_LIMIT;
 use crate::state::{Function, Setting, State, Waiting};
 
 #[tactic(auto, unfolding(crate::specs::Soundness::setting_sound_of))]
@@ -24,7 +25,7 @@ fn waiting_sound(w: Waiting) -> bool
     ensures { result ≡ waiting_sound_of w }
 {
     let p = w.pair;
-    ((w.start <= 100000000) & (w.end <= 100000000)) & calibration::pair_ranged(p)
+    ((w.start <= MINUTE_LIMIT) & (w.end <= MINUTE_LIMIT)) & calibration::pair_ranged(p)
 }
 
 fn pairs_sound(pairs: &[Waiting]) -> bool
@@ -49,7 +50,7 @@ pub fn sound(most: u32, st: State) -> bool
     if 30 < st.pending {
         return false;
     }
-    ((((st.minute <= 100000000) & begun_sound(st.begun, st.setting))
+    ((((st.minute <= MINUTE_LIMIT) & begun_sound(st.begun, st.setting))
         & (st.zero.sound() & st.span.sound()))
         & (((st.pending <= 30) & pairs_sound(&st.pairs[..st.pending as usize]))
             & calibration_sound(st.calibration)))

@@ -2,18 +2,18 @@
 ghost use Rattle.std.specs.Prelude.{◌≡◌, true, false};
 ghost use Rattle.refusals.specs.Rows.{outcome_of};
 ghost use Rattle.records.specs.Record.{ranged_of};
-ghost use Rattle.records.specs.Soundness.{Sound};
+ghost use Rattle.records.specs.Soundness.{Fitting};
 ghost use Rattle.records.specs.Table.{kind_refusal, misplaced, refusal_in};
 ghost use Rattle.records.specs.State.{facts_of, step_of, stepped};
 
 use crate::state::State;
-use crate::{apply, checks, closing, layout, ranges};
+use crate::{apply, bytes, checks, closing, layout, ranges};
 use refusals::Refusal;
 
 // The rows of a record's own kind.
 #[tactic(auto, unfolding(crate::specs::Table::kind_refusal, crate::specs::Record::kind))]
 fn kind_refusal(st: State, r: &[u8; 40]) -> Result<(), Refusal>
-    requires { Sound 4000000000 st × (misplaced (facts_of st) r.now ≡ false) × (ranged_of r.now ≡ true) }
+    requires { Fitting st × (misplaced (facts_of st) r.now ≡ false) × (ranged_of r.now ≡ true) }
     ensures { outcome_of result ≡ kind_refusal (facts_of st) r.now }
 {
     // The kind stays a byte, matched with ranges: a rule of the project.
@@ -30,9 +30,9 @@ fn kind_refusal(st: State, r: &[u8; 40]) -> Result<(), Refusal>
 }
 
 // The table's rows from 10 on, downwards: the first that fits.
-#[tactic(auto, unfolding(crate::specs::Table::refusal_in))]
+#[tactic(auto, unfolding(crate::specs::Table::refusal_in, crate::specs::Record::minute))]
 pub fn refusal(st: State, r: &[u8; 40]) -> Result<(), Refusal>
-    requires { Sound 4000000000 st }
+    requires { Fitting st }
     ensures { outcome_of result ≡ refusal_in (facts_of st) r.now }
 {
     if !layout::formed(r) {
@@ -41,7 +41,7 @@ pub fn refusal(st: State, r: &[u8; 40]) -> Result<(), Refusal>
     if checks::misplaced(st, r) {
         return Err(Refusal::Place);
     }
-    if checks::untimely(st, r) {
+    if checks::untimely(st, bytes::read32(r, 4)) {
         return Err(Refusal::Minute);
     }
     if !ranges::ranged(r) {
@@ -53,7 +53,7 @@ pub fn refusal(st: State, r: &[u8; 40]) -> Result<(), Refusal>
 // A record in a state: refused, or the state after it.
 #[tactic(auto, unfolding(crate::specs::State::step_of))]
 pub fn step(st: State, r: &[u8; 40]) -> Result<State, Refusal>
-    requires { Sound 4000000000 st }
+    requires { Fitting st }
     ensures { stepped st result ≡ step_of st r.now }
 {
     refusal(st, r)?;

@@ -2,7 +2,7 @@
 use Rattle.std.proofs.Common.{◌≡◌, refl, ap, sym, ◌∙◌, arith}
 use Rattle.std.specs.Prelude.{ℕ, zero, suc, Bool, true, false, T, eqb, ltb, Result, Ok, Err, IsErrAnd, if◌then◌else◌}
 use Rattle.std.proofs.lemmas.Bool.{false≢true}
-use Rattle.refusals.specs.Rows.{number_of, outcome_of, ◌when◌, ◌or◌}
+use Rattle.refusals.specs.Rows.{number_of, outcome_of, ◌when◌, ◌or◌, unless_refused}
 use Rattle.refusals.specs.declared.Refusal.{Refusal}
 use Rattle.refusals.specs.declared.Refusal.TheVariants.{Length, Check, Header, Analyser, Sequence, Records, State, Layout, Place, Minute, Range, Unstarted, Full, Times, Coverage, Waiting, Function, Count, Days, Divisor, Slope, Beyond, Stored, Edition}
 
@@ -129,3 +129,31 @@ or_next (suc n) m e = absurd (omega arith)
 pub or_stop : (n m : ℕ) → (n ≡ 0 → ⊥) → (n or m) ≡ n
 or_stop zero m e = absurd (e refl)
 or_stop (suc n) m e = refl
+
+-- ---- an answer that has rows before it
+
+module _ {A : Type 0} (tell : ℕ → A) where
+  pub unless_next : (n : ℕ) (rest : A) → n ≡ 0 → unless_refused tell n rest ≡ rest
+  unless_next zero rest e = refl
+  unless_next (suc n) rest e = absurd (omega arith)
+
+  pub unless_stop : (n : ℕ) (rest : A) → (n ≡ 0 → ⊥) → unless_refused tell n rest ≡ tell n
+  unless_stop zero rest e = absurd (e refl)
+  unless_stop (suc n) rest e = refl
+
+  -- what the rest has where no row fits, and what is told has where one does, the answer has
+  pub unless_all : (P : A → Type 0) (n : ℕ) (rest : A) → ((n ≡ 0 → ⊥) → P (tell n)) → (n ≡ 0 → P rest) → P (unless_refused tell n rest)
+  unless_all P zero rest f g = g refl
+  unless_all P (suc n) rest f g = f (λ e. omega arith)
+
+  -- an answer without a refusal: no row fits, and the rest has none
+  pub unless_passed : (refusal : A → ℕ) → ((n : ℕ) → refusal (tell n) ≡ n) → (n : ℕ) (rest : A) → refusal (unless_refused tell n rest) ≡ 0
+      → (n ≡ 0) × (refusal rest ≡ 0)
+  unless_passed refusal t zero rest e = (refl, e)
+  unless_passed refusal t (suc n) rest e = absurd (let q = t (suc n) in omega (arith, q, e))
+
+-- two answers with the same rows before them
+pub unless_both : {A B : Type 0} (R : A → B → Type 0) (f : ℕ → A) (g : ℕ → B) (n : ℕ) (x : A) (y : B) → ((m : ℕ) → R (f m) (g m)) → (n ≡ 0 → R x y)
+    → R (unless_refused f n x) (unless_refused g n y)
+unless_both R f g zero x y told rest = rest refl
+unless_both R f g (suc n) x y told rest = told (suc n)

@@ -49,3 +49,8 @@ n when false = 0
 abbrev pub ◌or◌ : ℕ → ℕ → ℕ
 zero or m = m
 suc n or m = suc n
+
+-- an answer that has rows before it: the first that fits has its number told, and without one the rest is answered
+abbrev pub unless_refused : {A : Type 0} → (ℕ → A) → ℕ → A → A
+unless_refused tell zero rest = rest
+unless_refused tell (suc n) rest = tell (suc n)

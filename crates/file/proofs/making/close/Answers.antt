@@ -9,7 +9,7 @@ use mir.Facts.{to_z-of_z}
 use Rattle.calibration.specs.Outcomes.{Fitted, Tested, fitted, tested}
 use Rattle.calibration.specs.Pairs.{ZRanged}
 use Rattle.records.specs.State.{facts_of}
-use Rattle.records.specs.Soundness.{SettingSound}
+use Rattle.records.specs.Soundness.{SettingSound, count_limit}
 use Rattle.records.specs.Table.{calibration_of}
 use Rattle.file.specs.Closings.{annual_record, first_rows, calibration_record}
 use Rattle.file.proofs.ClosingLaws as L
@@ -28,7 +28,7 @@ passed c = sym c.in_ok-first_rows.ensures
 setting : (c : In_ok-first_rows) → SettingSound c.args.st.setting
 setting c =
     let a = c.args.closing in
-    L.begun_setting 4000000000 c.args.st (L.passed_begun (facts_of c.args.st) a.kind a.minute a.z (passed c)) c.requires
+    L.begun_setting count_limit c.args.st (L.passed_begun (facts_of c.args.st) a.kind a.minute a.z (passed c)) c.requires
 
 -- the fit of the pairs that wait, by Z as it was handed over
 fit_is : (c : Start) (x : Fitted) → x ≡ calibration_of (facts_of c.args.st) (to_z w32 (of_z w32 c.args.closing.z)) → x ≡ calibration_of (facts_of c.args.st) c.args.closing.z

@@ -4,7 +4,7 @@ use Rattle.std.proofs.lemmas.Result.{err_from_is_err_and}
 use Rattle.std.specs.Prelude.{List, ℕ, IfOk, MatchResult, Result, Ok, Err, Some}
 use Rattle.refusals.specs.declared.Refusal.{Refusal}
 use Rattle.refusals.specs.Rows.{number_of, outcome_of}
-use Rattle.records.specs.Soundness.{Sound}
+use Rattle.records.specs.Soundness.{Fitting}
 use Rattle.records.specs.State.{facts_of}
 use Rattle.records.specs.declared.state.State.{State}
 use Rattle.file.specs.Answered.{Appended, index_of, ran_of}
@@ -89,7 +89,7 @@ pub close-requires : goal.close-requires
 close-requires c =
     let a = c.args in
     let g = goal.at.close-requires c in
-    subst (Sound 4000000000) (sym (after g.In_ok-before))
+    subst Fitting (sym (after g.In_ok-before))
     (L.before_sound a.st a.edition a.bytes.now (search rules) (omega (arith, few g.Else-not-records_fit)) (sound g.Else-not-ready))
 
 pub overflow_cast-place : goal.overflow_cast-place
