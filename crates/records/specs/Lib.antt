@@ -13,7 +13,7 @@ pub mod Soundness
 pub mod InPlace
 pub mod ListLaws
 pub mod WeekLaws
-pub mod Agreement
+pub mod Summary
 pub mod Answers
 pub mod EditionLaws
 pub mod Steps
