@@ -259,7 +259,7 @@ impl<'a, R: Print> Desk<'a, R> {
         print!(self.rt; " span {} pairs {}", readings(st.span), st.pending)?;
         print!(self.rt;
             " total {} outside {} over {}",
-            st.total, st.outside, st.over
+            st.tally.total, st.tally.outside, st.over
         )?;
         print!(self.rt; " call {} calibration ", Or(st.demand, "-"))?;
         match st.calibration {

@@ -1,4 +1,4 @@
--- What a state answers on alarms and usability is what the history says, where the two agree.
+-- What the summary of a history answers on alarms and usability is what the history says.
 use Rattle.std.specs.Prelude.{◌≡◌, refl, Bool, true, false, List, [], map, ℕ, ◌-◌, ◌≤◌, if◌then◌else◌, None, Some}
 use Rattle.std.proofs.Common.{arith}
 use Rattle.std.proofs.Math.Option.{Option, none, some}
@@ -11,8 +11,8 @@ use Rattle.charts.specs.declared.Alarms.{Alarms}
 use Rattle.records.specs.Kinds.{Point, at_zero, at_span, deviation_of, Calibration}
 use Rattle.records.specs.Record.{difference_of}
 use Rattle.records.specs.History.{History, on, last_minute, setting_in, started_in, differences_in, function_in, first_call, AlarmStands, minute_of, Recent, Usable}
-use Rattle.records.specs.Agreement.{reading_of, readings_since, chart_in, demand_of, Agrees}
-use Rattle.records.proofs.AgreementLaws.{differences_of}
+use Rattle.records.specs.Summary.{reading_of, readings_since, chart_in, demand_of, Place, summary_of}
+use Rattle.records.proofs.SummaryLaws.{differences_of}
 use Rattle.records.specs.Answers.{zero_alarms, span_alarms, silent, young_of, recent_of, usable_of}
 use Rattle.records.specs.declared.state.State.{State}
 
@@ -36,17 +36,17 @@ chart_answers c a h = go (started_in c h)
     go true = rw (differences_of (readings_since c h)) at (alarms_after a s blank rs)
     go false = blank_answers a s
 
--- ALARMS: each of the six, answered from the state, stands exactly if some run of the history's readings says so
-pub alarm_says : (c : Point) (a : Alarm) (h : History) (st : State) → Agrees h st → Answers (alarm_of a (alarms_at c st)) (AlarmStands c a h)
-unfolding zero_alarms span_alarms
-alarm_says at_zero a h st A = rw (A.zero, A.setting) (chart_answers at_zero a h)
-alarm_says at_span a h st A = rw (A.span, A.setting) (chart_answers at_span a h)
+-- ALARMS: each of the six, answered from the summary, stands exactly if some run of the history's readings says so
+pub alarm_says : (c : Point) (a : Alarm) (p : Place) (h : History) → Answers (alarm_of a (alarms_at c (summary_of p h))) (AlarmStands c a h)
+unfolding zero_alarms span_alarms summary_of
+alarm_says at_zero a p h = chart_answers at_zero a h
+alarm_says at_span a p h = chart_answers at_span a h
 
-silent_says : (c : Point) (h : History) (st : State) → Agrees h st → Answers (silent (alarms_at c st)) ((a : Alarm) → ¬ AlarmStands c a h)
-silent_says c h st A =
+silent_says : (c : Point) (p : Place) (h : History) → Answers (silent (alarms_at c (summary_of p h))) ((a : Alarm) → ¬ AlarmStands c a h)
+silent_says c p h =
     answers_as
-    (answers_and (answers_and (answers_not (alarm_says c rising h st A)) (answers_not (alarm_says c falling h st A))) (answers_not (alarm_says c precision h st A)))
-    (λ p a. elim a as (λ a. ¬ AlarmStands c a h) [ rising ↦ p.0.0 | falling ↦ p.0.1 | precision ↦ p.1 ])
+    (answers_and (answers_and (answers_not (alarm_says c rising p h)) (answers_not (alarm_says c falling p h))) (answers_not (alarm_says c precision p h)))
+    (λ q a. elim a as (λ a. ¬ AlarmStands c a h) [ rising ↦ q.0.0 | falling ↦ q.0.1 | precision ↦ q.1 ])
     (λ f. ((f rising, f falling), f precision))
 
 young_says : (limit m : ℕ) (k : Calibration) → Answers (young_of limit m k) ((f : ℕ) × (minute_of k ≡ some f) × (m - f ≤ limit))
@@ -63,23 +63,19 @@ recent_says : (limit m : ℕ) (o : Option ℕ) → Answers (recent_of limit m (d
 recent_says limit m none = record { sure = λ x. tt; back = λ x. tt }
 recent_says limit m (some f) = answers_le (m - f) limit
 
--- USABLE, answered from the state, is the history's
-pub usable_says : (h : History) (st : State) → Agrees h st → Answers (usable_of st) (Usable h)
-unfolding usable_of
-usable_says h st A =
+-- USABLE, answered from the summary, is the history's
+pub usable_says : (p : Place) (h : History) → Answers (usable_of (summary_of p h)) (Usable h)
+unfolding usable_of summary_of
+usable_says p h =
     answers_as
-    (answers_and (answers_and (silent_says at_zero h st A) (silent_says at_span h st A)) (answers_and young recent))
-    (λ p. record {
-      quiet = λ c. elim c as (λ c. (a : Alarm) → ¬ AlarmStands c a h) [ at_zero ↦ p.0.0 | at_span ↦ p.0.1 ];
-      from = p.1.0.0;
-      in_force = p.1.0.1;
-      young = p.1.0.2;
-      called = p.1.1;
+    (answers_and
+    (answers_and (silent_says at_zero p h) (silent_says at_span p h))
+    (answers_and (young_says 2629440 (last_minute h) (function_in h)) (recent_says 263520 (last_minute h) (first_call h))))
+    (λ q. record {
+      quiet = λ c. elim c as (λ c. (a : Alarm) → ¬ AlarmStands c a h) [ at_zero ↦ q.0.0 | at_span ↦ q.0.1 ];
+      from = q.1.0.0;
+      in_force = q.1.0.1;
+      young = q.1.0.2;
+      called = q.1.1;
     })
     (λ u. ((u.quiet at_zero, u.quiet at_span), ((u.from, u.in_force, u.young), u.called)))
-  where
-    young : Answers (young_of 2629440 st.minute st.calibration) ((f : ℕ) × (minute_of (function_in h) ≡ some f) × (last_minute h - f ≤ 2629440))
-    young = rw (A.minute, A.calibration) (young_says 2629440 (last_minute h) (function_in h))
-
-    recent : Answers (recent_of 263520 st.minute st.demand) (Recent 263520 (last_minute h) (first_call h))
-    recent = rw (A.minute, A.demand) (recent_says 263520 (last_minute h) (first_call h))

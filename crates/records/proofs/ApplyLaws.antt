@@ -1,6 +1,6 @@
 -- What each kind makes of the judged state is the state after an accepted record of that kind.
 use mathlib.Core.Path.{◌≡◌, refl}
-use mathlib.Core.Bool.{Bool, true, false, ◌&&◌}
+use mathlib.Core.Bool.{Bool, true, false}
 use mathlib.Core.Logic.{◌⊎◌, inl, inr, ⊎_elim}
 use Prim.Native.Nat.{ℕ, zero, suc, ◌≤◌, ◌<◌}
 use native.Mathlib.Omega.{arith}
@@ -13,12 +13,13 @@ use Rattle.charts.specs.Soundness.{Sound}
 use Rattle.charts.specs.declared.Chart.{Chart}
 use Rattle.charts.specs.Tests.{if_all}
 use Rattle.records.specs.Record.{Record, kind, mark, minute, difference_of, function_of, setting_of, waiting_of}
-use Rattle.records.specs.Kinds.{reads, resets, sets, pairs, empties, calibrates, passes, fails, counts, outside_by, Demand}
+use Rattle.records.specs.Kinds.{reads, resets, sets, is_pair, calibrates, passes, fails, empties, comes_into_force, clears_calls, starts_period, counts, no_values, raises_call, Demand}
 use Rattle.records.specs.Table.{reading_refusal}
 use Rattle.records.proofs.TableLaws.{zero_open, span_open}
-use Rattle.records.specs.State.{facts_of, chart_after, turns_from, judges, raised_of, applied_to}
-use Rattle.records.specs.StateParts.{chart_at, deviation_at, with_chart, with_setting, with_zero, with_span, with_reading, with_reset, with_pair, emptied, with_failure, with_demand, with_function, with_calibration, with_period, with_annual, with_tally, with_value, judged_of}
+use Rattle.records.specs.State.{facts_of, chart_after, turns_from, judged_at, running_at, raised_of, applied_to}
+use Rattle.records.specs.StateParts.{chart_at, deviation_at, with_chart, with_reading, with_reset, with_pair, emptied, with_failure, with_function, with_calibration, with_period, with_annual, with_value, judged_of}
 use Rattle.records.specs.declared.state.State.{State}
+use Rattle.records.specs.declared.state.Tally.{Tally}
 
 -- the first call stays the first, as `Option::or` keeps it
 pub raised_or : (d : Demand) (m : ℕ) → option_or d (Some m) ≡ raised_of d m
@@ -42,56 +43,56 @@ module _ (st : State) (r : Record) where
   abbrev judged : State
   judged = judged_of st (minute r)
 
-  pub judged_total : judged.total ≤ st.total
-  unfolding judged_of
-  judged_total = if_all (λ (n : ℕ). n ≤ st.total) (turns_from st.minute (minute r)) _ _ (λ t. omega arith) (λ t. omega arith)
+  pub judged_total : judged.tally.total ≤ st.tally.total
+  unfolding judged_of running_at no_values
+  judged_total = if_all (λ (t : Tally). t.total ≤ st.tally.total) (turns_from st.minute (minute r)) _ _ (λ t. omega arith) (λ t. omega arith)
 
-  pub judged_outside : judged.outside ≤ st.outside
-  unfolding judged_of
-  judged_outside = if_all (λ (n : ℕ). n ≤ st.outside) (turns_from st.minute (minute r)) _ _ (λ t. omega arith) (λ t. omega arith)
+  pub judged_outside : judged.tally.outside ≤ st.tally.outside
+  unfolding judged_of running_at no_values
+  judged_outside = if_all (λ (t : Tally). t.outside ≤ st.tally.outside) (turns_from st.minute (minute r)) _ _ (λ t. omega arith) (λ t. omega arith)
 
-  pub applied_setting : kind r ≡ 1 → with_setting judged (setting_of r) ≡ applied_to st r
-  unfolding judged_of applied_to chart_after sets reads resets pairs empties calibrates passes fails counts with_setting
+  pub applied_setting : kind r ≡ 1 → record judged { setting = setting_of r } ≡ applied_to st r
+  unfolding judged_of applied_to chart_after sets reads resets is_pair empties calibrates passes fails counts comes_into_force clears_calls starts_period
   applied_setting k = rw k
 
   pub applied_reading : kind r ≡ 2 → mark r ≤ 1 → with_reading judged r ≡ applied_to st r
-  unfolding judged_of applied_to chart_after sets reads resets pairs empties calibrates passes fails counts with_reading with_zero with_span
+  unfolding judged_of applied_to chart_after sets reads resets is_pair empties calibrates passes fails counts comes_into_force clears_calls starts_period with_reading
   applied_reading k h = ⊎_elim (λ (e : mark r ≡ 0). rw (k, e)) (λ (e : mark r ≡ 1). rw (k, e)) (two_marks h)
 
   pub applied_reset : kind r ≡ 3 → mark r ≤ 1 → with_reset judged r ≡ applied_to st r
-  unfolding judged_of applied_to chart_after sets reads resets pairs empties calibrates passes fails counts with_reset with_zero with_span
+  unfolding judged_of applied_to chart_after sets reads resets is_pair empties calibrates passes fails counts comes_into_force clears_calls starts_period with_reset
   applied_reset k h = ⊎_elim (λ (e : mark r ≡ 0). rw (k, e)) (λ (e : mark r ≡ 1). rw (k, e)) (two_marks h)
 
   pub applied_pair : kind r ≡ 4 → with_pair judged (waiting_of r) ≡ applied_to st r
-  unfolding judged_of applied_to chart_after sets reads resets pairs empties calibrates passes fails counts with_pair
+  unfolding judged_of applied_to chart_after sets reads resets is_pair empties calibrates passes fails counts comes_into_force clears_calls starts_period
   applied_pair k = rw k
 
   pub applied_calibration : kind r ≡ 5 → with_calibration judged r ≡ applied_to st r
-  unfolding judged_of applied_to chart_after sets reads resets pairs empties calibrates passes fails counts with_calibration with_function with_failure with_demand emptied
+  unfolding judged_of applied_to chart_after sets reads resets is_pair empties calibrates passes fails counts comes_into_force clears_calls starts_period with_calibration with_failure
   applied_calibration k = by_mark (eqb (mark r) 1) refl
     where
       by_mark : (b : Bool) → eqb (mark r) 1 ≡ b → with_calibration judged r ≡ applied_to st r
       by_mark true e = rw (k, e)
-      by_mark false e = rw (k, e, raised_again (turns_from st.minute (minute r) && judges st) st.demand (minute r))
+      by_mark false e = rw (k, e, raised_again (raises_call (judged_at st (minute r)) st.over) st.demand (minute r))
 
   pub applied_annual : kind r ≡ 6 → with_annual judged r ≡ applied_to st r
-  unfolding judged_of applied_to chart_after sets reads resets pairs empties calibrates passes fails counts with_annual with_period with_failure with_demand emptied
+  unfolding judged_of applied_to chart_after sets reads resets is_pair empties calibrates passes fails counts comes_into_force clears_calls starts_period with_annual with_failure
   applied_annual k = by_mark (eqb (mark r) 3) refl
     where
       by_mark : (b : Bool) → eqb (mark r) 3 ≡ b → with_annual judged r ≡ applied_to st r
       by_mark true e = rw (k, e)
-      by_mark false e = rw (k, e, raised_again (turns_from st.minute (minute r) && judges st) st.demand (minute r))
+      by_mark false e = rw (k, e, raised_again (raises_call (judged_at st (minute r)) st.over) st.demand (minute r))
 
-  pub applied_value : kind r ≡ 7 → with_value judged (mark r) (outside_by st.edition st.calibration st.setting r) ≡ applied_to st r
-  unfolding judged_of applied_to chart_after sets reads resets pairs empties calibrates passes fails counts with_value with_tally
+  pub applied_value : kind r ≡ 7 → with_value judged r ≡ applied_to st r
+  unfolding judged_of applied_to chart_after sets reads resets is_pair empties calibrates passes fails counts comes_into_force clears_calls starts_period with_value
   applied_value k = by_mark (eqb (mark r) 0) refl
     where
-      by_mark : (b : Bool) → eqb (mark r) 0 ≡ b → with_value judged (mark r) (outside_by st.edition st.calibration st.setting r) ≡ applied_to st r
+      by_mark : (b : Bool) → eqb (mark r) 0 ≡ b → with_value judged r ≡ applied_to st r
       by_mark true e = rw (k, e)
       by_mark false e = rw (k, e)
 
   pub applied_drop : kind r ≡ 8 → emptied judged ≡ applied_to st r
-  unfolding judged_of applied_to chart_after sets reads resets pairs empties calibrates passes fails counts emptied
+  unfolding judged_of applied_to chart_after sets reads resets is_pair empties calibrates passes fails counts comes_into_force clears_calls starts_period
   applied_drop k = rw k
 
 -- ---- the chart of a mark
@@ -109,7 +110,7 @@ module _ (st : State) (r : Record) where
   chart_sound z s = if_all Sound (eqb (mark r) 0) st.zero st.span (λ t. z) (λ t. s)
 
   pub reading_of_mark : with_chart st (mark r) (applied_of (chart_at st (mark r)) st.edition (deviation_at st.setting (mark r)) (difference_of r)) ≡ with_reading st r
-  unfolding with_reading with_zero with_span
+  unfolding with_reading
   reading_of_mark = by_mark (eqb (mark r) 0) refl
     where
       by_mark : (b : Bool) → eqb (mark r) 0 ≡ b

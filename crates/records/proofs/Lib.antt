@@ -5,7 +5,8 @@ pub mod ApplyLaws
 pub mod InPlaceLaws
 pub mod PairLaws
 pub mod StateLaws
-pub mod AgreementLaws
+pub mod SummaryLaws
+pub mod WeekCount
 pub mod StepsLaws
 pub mod TableLaws
 pub mod SoundnessLaws

@@ -1,5 +1,5 @@
--- A fresh state is sound, and an accepted record keeps a state so.
-use Rattle.std.specs.Prelude.{◌≡◌, refl, Bool, true, false, not, ◌&&◌, List, [], ◌∷◌, map, ℕ, zero, suc, ◌+◌, ◌≤◌, ◌<◌, eqb, set, if◌then◌else◌, Some}
+-- The summary of no record is sound, and an accepted record keeps a state so.
+use Rattle.std.specs.Prelude.{◌≡◌, refl, Bool, true, false, not, List, [], ◌∷◌, map, ℕ, zero, suc, ◌+◌, ◌≤◌, ◌<◌, eqb, set, if◌then◌else◌, Some}
 use Rattle.std.proofs.Common.{subst, ◌∙◌, arith, add-one, length-set}
 use Rattle.std.proofs.Math.Dec.{T}
 use Rattle.std.proofs.Math.ListN.{length, take, length-take, length-map}
@@ -14,18 +14,21 @@ use Rattle.calibration.proofs.FitRange.{fitted_ranged}
 use Rattle.calibration.proofs.RangeLaws.{between_abs}
 use Rattle.records.specs.Record.{Record, kind, mark, minute, minute_limit, setting_ranged, setting_of, difference_of, waiting_of, function_of, z_of}
 use Rattle.records.specs.RecordLaws.{WaitingFields, setting_fields, setting_ranged_lem, reading_fields, reading_ranged_lem, waiting_fields, waiting_ranged_lem, z_field, z_ranged}
-use Rattle.records.specs.Kinds.{Point, at_zero, at_span, deviation_of, reads, resets, sets, pairs, empties, calibrates, passes, counts, exceeds, outside_by, line_of}
+use Rattle.records.specs.Kinds.{Point, at_zero, at_span, deviation_of, reads, resets, sets, is_pair, empties, calibrates, comes_into_force, starts_period, counts, no_values, one_more, exceeds, outside_by, line_of}
 use Rattle.records.specs.Table.{misplaced, pair_of_waiting, refusal_in}
 use Rattle.records.proofs.TableLaws.{Accepted, accepted, reading_passed, zero_open, span_open, pair_passed, pair_passes, calibration_passed, calibration_passes, stored_line}
-use Rattle.records.specs.State.{no_pairs, initial_of, facts_of, chart_after, turns_from, applied_to}
+use Rattle.records.specs.State.{no_pairs, initial_of, facts_of, chart_after, turns_from, judged_at, running_at, applied_to}
+use Rattle.records.specs.History.{pending_in, function_in, tally_in, weeks_over}
+use Rattle.records.specs.Summary.{Place, chart_in, summary_of}
 use Rattle.records.specs.Soundness.{SettingSound, WaitingSound, AllSound, CalibrationSound, BegunSound, Sound}
 use Rattle.records.specs.declared.state.Setting.{Setting}
 use Rattle.records.specs.declared.state.Waiting.{Waiting}
 use Rattle.records.specs.declared.state.State.{State}
+use Rattle.records.specs.declared.state.Tally.{Tally}
 
-pub initial_sound : (analyser : ℕ) → Sound 0 (initial_of analyser)
-unfolding initial_of
-initial_sound analyser = record {
+pub none_sound : (p : Place) → Sound 0 (summary_of p [])
+unfolding summary_of chart_in pending_in function_in tally_in no_values weeks_over
+none_sound p = record {
   minute = omega arith;
   setting = tt;
   zero = blank_sound;
@@ -38,8 +41,9 @@ initial_sound analyser = record {
   over = omega arith;
 }
 
-pub weaken : {m n : ℕ} {st : State} → m ≤ n → Sound m st → Sound n st
-weaken h S = record {
+-- in another place, and with a higher bound
+pub elsewhere : {m n : ℕ} {st : State} (analyser next edition : ℕ) → m ≤ n → Sound m st → Sound n (record st { analyser = analyser; next = next; edition = edition })
+elsewhere analyser next edition h S = record {
   minute = S.minute;
   setting = S.setting;
   zero = S.zero;
@@ -52,16 +56,23 @@ weaken h S = record {
   over = omega (arith, S.over);
 }
 
+pub weaken : {m n : ℕ} {st : State} → m ≤ n → Sound m st → Sound n st
+weaken {st} h S = elsewhere st.analyser st.next st.edition h S
+
 -- ---- the array keeps its length
 
 pub initial_places : (analyser : ℕ) → length (initial_of analyser).pairs ≡ 30
 unfolding initial_of no_pairs
 initial_places analyser = refl
 
+pub none_places : (p : Place) → length (summary_of p []).pairs ≡ 30
+unfolding summary_of pending_in
+none_places p = refl
+
 pub applied_places : (st : State) (r : Record) → length st.pairs ≡ 30 → length (applied_to st r).pairs ≡ 30
 unfolding applied_to no_pairs
 applied_places st r h =
-    if_all Full (empties r) _ _ (λ t. refl) (λ t. if_all Full (pairs r) _ _ (λ t. length-set st.pairs st.pending (waiting_of r) ∙ h) (λ t. h))
+    if_all Full (empties r) _ _ (λ t. refl) (λ t. if_all Full (is_pair r) _ _ (λ t. length-set st.pairs st.pending (waiting_of r) ∙ h) (λ t. h))
   where
     Full : List Waiting → Type 0
     Full ws = length ws ≡ 30
@@ -116,13 +127,25 @@ pairs_ranged (w ∷ ws) A = (A.0.pair, pairs_ranged ws A.1)
 
 -- ---- the tally
 
--- at most one is counted
-counted : (passes turn counts : Bool) (n m : ℕ) → n ≤ m → (if passes then 0 else (if counts then (if turn then 0 else n) + 1 else (if turn then 0 else n))) ≤ m + 1
-counted true turn counts n m h = omega arith
-counted false true true n m h = omega arith
-counted false true false n m h = omega arith
-counted false false true n m h = omega arith
-counted false false false n m h = omega arith
+-- at most one is counted: of both counts of a tally at once
+abbrev Within : ℕ → Tally → Type 0
+Within m t = (t.total ≤ m) × (t.outside ≤ m)
+
+tally_within : (starts counts outside : Bool) (m : ℕ) (t : Tally) → Within m t → Within (m + 1) (if starts then no_values else (if counts then one_more outside t else t))
+unfolding no_values one_more
+tally_within true counts outside m t w = (omega arith, omega arith)
+tally_within false true true m t w = (omega (arith, w.0), omega (arith, w.1))
+tally_within false true false m t w = (omega (arith, w.0), omega (arith, w.1))
+tally_within false false outside m t w = (omega (arith, w.0), omega (arith, w.1))
+
+running_within : (m n : ℕ) (st : State) → Within m st.tally → Within m (running_at st n)
+unfolding running_at no_values
+running_within m n st w = if_all (Within m) (turns_from st.minute n) _ _ (λ t. (omega arith, omega arith)) (λ t. w)
+
+over_within : (starts over : Bool) (n m : ℕ) → n ≤ m → (if starts then 0 else (if over then n + 1 else n)) ≤ m + 1
+over_within true over n m h = omega arith
+over_within false true n m h = omega arith
+over_within false false n m h = omega arith
 
 -- ---- an accepted record
 
@@ -147,25 +170,25 @@ module _ (st : State) (r : Record) (A : Accepted (facts_of st) r) where
   setting_after S =
       if_all SettingSound (sets r) _ _ (λ t. setting_sound r (setting_ranged_lem r A.ranged (eqb_yes t))) (λ t. setting_known st r A.placed t S)
 
-  pending_after : length st.pairs ≡ 30 → st.pending ≤ 30 → (if empties r then 0 else (if pairs r then st.pending + 1 else st.pending)) ≤ 30
-  unfolding pairs facts_of
+  pending_after : length st.pairs ≡ 30 → st.pending ≤ 30 → (if empties r then 0 else (if is_pair r then st.pending + 1 else st.pending)) ≤ 30
+  unfolding is_pair facts_of
   pending_after h S =
       if_all (λ (n : ℕ). n ≤ 30) (empties r) _ _ (λ t. omega arith)
-      (λ t. if_all (λ (n : ℕ). n ≤ 30) (pairs r) _ _ room (λ u. S))
+      (λ t. if_all (λ (n : ℕ). n ≤ 30) (is_pair r) _ _ room (λ u. S))
     where
-      room : T (pairs r) → st.pending + 1 ≤ 30
+      room : T (is_pair r) → st.pending + 1 ≤ 30
       room u = omega (arith, (pair_passes (facts_of st) r (pair_passed (facts_of st) r A (eqb_yes u))).room, length-take st.pending st.pairs)
 
-  waiting_after : T (pairs r) → WaitingSound (waiting_of r)
-  unfolding pairs
+  waiting_after : T (is_pair r) → WaitingSound (waiting_of r)
+  unfolding is_pair
   waiting_after t = waiting_sound r (waiting_fields r (waiting_ranged_lem r A.ranged (eqb_yes t))) A.until
 
 module _ (m : ℕ) (st : State) (r : Record) (S : Sound m st) (A : Accepted (facts_of st) r) where
-  calibration_after : CalibrationSound (if calibrates r then Some (function_of r) else st.calibration)
-  unfolding calibrates sets facts_of
-  calibration_after = if_all CalibrationSound (calibrates r) _ _ in_force (λ t. S.calibration)
+  calibration_after : CalibrationSound (if comes_into_force r then Some (function_of r) else st.calibration)
+  unfolding comes_into_force calibrates sets facts_of
+  calibration_after = if_all CalibrationSound (comes_into_force r) _ _ in_force (λ t. S.calibration)
     where
-      in_force : T (calibrates r) → LineRanged (line_of (function_of r))
+      in_force : T (comes_into_force r) → LineRanged (line_of (function_of r))
       in_force t =
           let k = eqb_yes (and_yes (eqb (kind r) 5) (eqb (mark r) 1) t).0 in
           let P = calibration_passes (facts_of st) r (calibration_passed (facts_of st) r A k) in
@@ -179,16 +202,16 @@ pub applied_sound : (m : ℕ) (st : State) (r : Record) → length st.pairs ≡ 
 unfolding applied_to
 applied_sound m st r h S e =
     let A = accepted (facts_of st) r e in
-    let turn = turns_from st.minute (minute r) in
+    let w = tally_within (starts_period r) (counts r) (outside_by st.edition st.calibration st.setting r) m (running_at st (minute r)) (running_within m (minute r) st (S.total, S.outside)) in
     record {
       minute = A.until;
       setting = setting_after st r A S.setting;
       zero = chart_sound st.edition at_zero st.setting r st.zero S.zero (zero_fits st r A);
       span = chart_sound st.edition at_span st.setting r st.span S.span (span_fits st r A);
       pending = pending_after st r A h S.pending;
-      pairs = kept_sound (empties r) (pairs r) st.pending st.pairs (waiting_of r) S.pairs (waiting_after st r A);
+      pairs = kept_sound (empties r) (is_pair r) st.pending st.pairs (waiting_of r) S.pairs (waiting_after st r A);
       calibration = calibration_after m st r S A;
-      total = counted (passes r) turn (counts r) st.total m S.total;
-      outside = counted (passes r) turn (counts r && outside_by st.edition st.calibration st.setting r) st.outside m S.outside;
-      over = counted (passes r) false (turn && exceeds 5 st.outside st.total) st.over m S.over;
+      total = w.0;
+      outside = w.1;
+      over = over_within (starts_period r) (exceeds 5 (judged_at st (minute r))) st.over m S.over;
     }

@@ -1,72 +1,76 @@
--- A state in step with a history stays so over any list of records, and both stop at the same record for the same reason.
+-- The summary of a history goes through any list of records as the history does, and stops at the same record for the same reason.
 use Rattle.std.specs.Prelude.{◌≡◌, refl, Bool, true, false, List, [], ◌∷◌, ℕ, suc, ◌+◌, ◌≤◌, eqb, T, length, if◌then◌else◌}
-use Rattle.std.proofs.Common.{ap, ◌∙◌, arith, eqb→eq}
+use Rattle.std.proofs.Common.{subst, ◌∙◌, arith, eqb→eq}
+use Rattle.charts.specs.Tests.{if_all}
 use Rattle.records.specs.Record.{Record}
 use Rattle.records.specs.History.{Entry, History, refusal_of}
-use Rattle.records.specs.State.{facts_of, applied_to}
-use Rattle.records.specs.Table.{refusal_in}
+use Rattle.records.specs.State.{applied_to}
 use Rattle.records.specs.Soundness.{Sound}
-use Rattle.records.proofs.SoundnessLaws.{weaken, applied_sound, applied_places}
-use Rattle.records.specs.Agreement.{Taken, Agrees}
-use Rattle.records.proofs.AgreementLaws.{refuses_alike, agrees_after}
+use Rattle.records.proofs.SoundnessLaws.{elsewhere, none_sound, none_places, applied_sound, applied_places}
+use Rattle.records.specs.Summary.{Taken, Place, entry_at, summary_of}
+use Rattle.records.proofs.SummaryLaws.{refuses_alike, summary_after}
 use Rattle.records.specs.Steps.{Ran, ran_from, history_rules, state_rules}
 use Rattle.records.specs.declared.state.State.{State}
 
--- in step: the history's records were all accepted, the state agrees with it, and its counts are within bounds
-pub record InStep (most : ℕ) (h : History) (st : State) : Type 0 where
-  pub taken : Taken h
-  pub agrees : Agrees h st
-  pub places : length st.pairs ≡ 30
-  pub sound : Sound most st
+-- ---- the summary of accepted records is sound
 
--- two ends of a list of records: alike in refusal and place, and in step after as many records more
-pub record EndsAlike (most : ℕ) (a : Ran History) (b : Ran State) : Type 0 where
-  pub refusal : b.refusal ≡ a.refusal
-  pub index : b.index ≡ a.index
-  pub step : InStep most a.kept b.kept
+-- a place in the block of an entry
+abbrev with_edition : Place → Entry → Place
+with_edition p x = record p { edition = x.edition }
 
-later : (m n : ℕ) (h : History) (st : State) → m ≤ n → InStep m h st → InStep n h st
-later m n h st l s = record { taken = s.taken; agrees = s.agrees; places = s.places; sound = weaken l s.sound }
+-- its array has thirty places
+pub summary_places : (p : Place) (h : History) → Taken h → length (summary_of p h).pairs ≡ 30
+unfolding summary_of
+summary_places p [] t = none_places p
+summary_places p (x ∷ h) t =
+    let q = with_edition p x in
+    subst (λ (st : State). length st.pairs ≡ 30) (summary_after q h t.1 x.bytes t.0) (applied_places (summary_of q h) x.bytes (summary_places q h t.1))
 
--- a record leaves the edition as it is
-applied_edition : (st : State) (r : Record) → (applied_to st r).edition ≡ st.edition
-unfolding applied_to
-applied_edition st r = refl
+-- and its counts are no more than the records
+pub summary_sound : (p : Place) (h : History) → Taken h → Sound (length h) (summary_of p h)
+unfolding summary_of
+summary_sound p [] t = none_sound p
+summary_sound p (x ∷ h) t =
+    let q = with_edition p x in
+    elsewhere p.analyser p.next p.edition (omega arith)
+    (subst (Sound (length h + 1)) (summary_after q h t.1 x.bytes t.0)
+    (applied_sound (length h) (summary_of q h) x.bytes (summary_places q h t.1) (summary_sound q h t.1) (refuses_alike q h x.bytes ∙ t.0)))
 
--- the records of a block whose edition the state has
-pub ran_alike : (most place edition : ℕ) (h : History) (st : State) (rs : List Record) → st.edition ≡ edition → InStep most h st
-    → EndsAlike (most + length rs) (ran_from (history_rules edition) place h rs) (ran_from state_rules place st rs)
+-- ---- the records of a block
+
+-- the end of a list of records with the summary for the history
+abbrev pub summed : Place → Ran History → Ran State
+summed p x = record { kept = summary_of p x.kept; refusal = x.refusal; index = x.index }
+
+pub ran_alike : (p : Place) (place : ℕ) (h : History) (rs : List Record) → Taken h
+    → ran_from state_rules place (summary_of p h) rs ≡ summed p (ran_from (history_rules p.edition) place h rs)
 unfolding ran_from history_rules state_rules
-ran_alike most place edition h st [] d s = record { refusal = refl; index = refl; step = later most (most + 0) h st (omega arith) s }
-ran_alike most place edition h st (r ∷ rs) d s =
-    rw same
-    (go (eqb (refusal_of h x) 0) (λ t. eqb→eq (refusal_of h x) 0 t) (λ s'. ran_alike (most + 1) (place + 1) edition (x ∷ h) (applied_to st r) rs (applied_edition st r ∙ d) s'))
+ran_alike p place h [] t = refl
+ran_alike p place h (r ∷ rs) t =
+    rw (refuses_alike p h r)
+    (go (eqb (refusal_of h x) 0) (λ y. eqb→eq (refusal_of h x) 0 y) (λ e. ran_alike p (place + 1) (x ∷ h) rs (e, t)))
+  where
+    x : Entry
+    x = entry_at p r
+
+    A : Ran History
+    A = ran_from (history_rules p.edition) (place + 1) (x ∷ h) rs
+
+    go : (b : Bool) → (T b → refusal_of h x ≡ 0) → (refusal_of h x ≡ 0 → ran_from state_rules (place + 1) (summary_of p (x ∷ h)) rs ≡ summed p A)
+        → (if b then ran_from state_rules (place + 1) (applied_to (summary_of p h) r) rs else record { kept = summary_of p h; refusal = refusal_of h x; index = place })
+        ≡ summed p (if b then A else record { kept = h; refusal = refusal_of h x; index = place })
+    go true f rest = rw (summary_after p h t r (f tt)) (rest (f tt))
+    go false f rest = refl
+
+-- the history that they leave was accepted too, and is longer by no more than they are
+pub ran_taken : (edition place : ℕ) (h : History) (rs : List Record) → Taken h
+    → Taken (ran_from (history_rules edition) place h rs).kept × (length (ran_from (history_rules edition) place h rs).kept ≤ length h + length rs)
+unfolding ran_from history_rules
+ran_taken edition place h [] t = (t, omega arith)
+ran_taken edition place h (r ∷ rs) t =
+    if_all (λ (x : Ran History). Taken x.kept × (length x.kept ≤ length h + suc (length rs))) (eqb (refusal_of h x) 0) _ _
+    (λ y. let k = ran_taken edition (place + 1) (x ∷ h) rs (eqb→eq (refusal_of h x) 0 y, t) in (k.0, omega (arith, k.1)))
+    (λ n. (t, omega arith))
   where
     x : Entry
     x = record { edition = edition; bytes = r }
-
-    same : refusal_in (facts_of st) r ≡ refusal_of h x
-    same = refuses_alike h st s.agrees r ∙ ap (λ (n : ℕ). refusal_of h (record { edition = n; bytes = r })) d
-
-    A : Ran History
-    A = ran_from (history_rules edition) (place + 1) (x ∷ h) rs
-
-    B : Ran State
-    B = ran_from state_rules (place + 1) (applied_to st r) rs
-
-    next : refusal_of h x ≡ 0 → InStep (most + 1) (x ∷ h) (applied_to st r)
-    next e = record {
-      taken = (e, s.taken);
-      agrees = agrees_after h st s.taken s.agrees x d e;
-      places = applied_places st r s.places;
-      sound = applied_sound most st r s.places s.sound (same ∙ e);
-    }
-
-    go : (b : Bool) → (T b → refusal_of h x ≡ 0) → (InStep (most + 1) (x ∷ h) (applied_to st r) → EndsAlike (most + 1 + length rs) A B)
-        → EndsAlike (most + suc (length rs))
-        (if b then A else record { kept = h; refusal = refusal_of h x; index = place })
-        (if b then B else record { kept = st; refusal = refusal_of h x; index = place })
-    go true f rest =
-        let k = rest (next (f tt)) in
-        record { refusal = k.refusal; index = k.index; step = later (most + 1 + length rs) (most + suc (length rs)) A.kept B.kept (omega arith) k.step }
-    go false f rest = record { refusal = refl; index = refl; step = later most (most + suc (length rs)) h st (omega arith) s }

@@ -1,17 +1,18 @@
--- Paper 02, C-13: what the records say whatever the editions of their blocks are: the setting, differences and alarms, the pairs that wait, the function in
--- force, how many of a week's values count, and, of a next record with its own edition, which row refuses it and whether it is a value outside. Not among
--- these are adjustments, the number of values outside, and what follows from that number: weeks over 5 %, calls, usable. They go by the editions of the
--- records behind them.
-use Rattle.std.specs.Prelude.{◌≡◌, refl, Bool, true, false, ◌&&◌, List, [], ◌∷◌, ◌++◌, map, ℕ, suc, eqb, if◌then◌else◌, Some}
+-- Paper 02, C-13: what the records say whatever the editions of their blocks are: the setting, differences and alarms, the pairs
+-- that wait, the function in force, how many of a week's values count, and, of a next record with its own edition, which row
+-- refuses it and whether it is a value outside. Not among these are adjustments, the number of values outside, and what follows
+-- from that number: weeks over 5 %, calls, usable. They go by the editions of the records behind them.
+use Rattle.std.specs.Prelude.{◌≡◌, refl, Bool, true, false, List, [], ◌∷◌, ◌++◌, map, ℕ, ◌+◌, if◌then◌else◌, Some}
 use Rattle.std.proofs.Common.{sym, ap, ◌∙◌}
 use Rattle.charts.specs.Runs.{Alarm}
 use Rattle.records.specs.Lists.{since, those, any, those_since}
 use Rattle.records.specs.Record.{Record, setting_of, difference_of, waiting_of, function_of}
-use Rattle.records.specs.Kinds.{Point, at_zero, at_span, reads, resets, sets, pairs, empties, calibrates, passes, counts, Calibration}
+use Rattle.records.specs.Kinds.{Point, at_zero, at_span, reads, resets, sets, is_pair, empties, comes_into_force, starts_period, no_values, one_more, Calibration}
 use Rattle.records.specs.Table.{Facts, refusal_in}
-use Rattle.records.specs.History.{Entry, History, on, setting_in, last_minute, started_in, differences_in, AlarmStands, pending_in, function_in, own_week, outside_of_week, total_in, begun_in, facts_in, refusal_of}
+use Rattle.records.specs.History.{Entry, History, on, setting_in, last_minute, started_in, differences_in, AlarmStands, pending_in, function_in, value_of_week, outside_when, tally_in, begun_in, facts_in, refusal_of}
 use Rattle.records.specs.declared.state.Setting.{Setting}
 use Rattle.records.specs.declared.state.Waiting.{Waiting}
+use Rattle.records.specs.declared.state.Tally.{Tally}
 
 -- the records of a history without their editions
 abbrev pub without_editions : History → List Record
@@ -27,9 +28,9 @@ pub record Alike (h k : History) : Type 0 where
   pub alarms : (c : Point) (a : Alarm) → (AlarmStands c a h → AlarmStands c a k) × (AlarmStands c a k → AlarmStands c a h)
   pub pending : pending_in h ≡ pending_in k
   pub function : function_in h ≡ function_in k
-  pub total : (w : ℕ) → total_in w h ≡ total_in w k
+  pub total : (w : ℕ) → (tally_in w h).total ≡ (tally_in w k).total
   pub refusal : (r : Entry) → refusal_of h r ≡ refusal_of k r
-  pub outside : (w : ℕ) (r : Entry) → outside_of_week w h r ≡ outside_of_week w k r
+  pub outside : (r : Entry) → outside_when h r ≡ outside_when k r
 
 -- ---- each is the same where all editions are made 0
 
@@ -84,23 +85,38 @@ plain_pending : (h : History) → pending_in h ≡ pending_in (plain h)
 unfolding pending_in
 plain_pending [] = refl
 plain_pending (r ∷ h) =
-    ap (λ (ws : List Waiting). if empties r.bytes then [] else (if pairs r.bytes then ws ++ (waiting_of r.bytes ∷ []) else ws))
+    ap (λ (ws : List Waiting). if empties r.bytes then [] else (if is_pair r.bytes then ws ++ (waiting_of r.bytes ∷ []) else ws))
     (plain_pending h)
 
 plain_function : (h : History) → function_in h ≡ function_in (plain h)
 unfolding function_in
 plain_function [] = refl
-plain_function (r ∷ h) = ap (λ (k : Calibration). if calibrates r.bytes then Some (function_of r.bytes) else k) (plain_function h)
+plain_function (r ∷ h) = ap (λ (k : Calibration). if comes_into_force r.bytes then Some (function_of r.bytes) else k) (plain_function h)
 
 plain_begun : (h : History) → begun_in h ≡ begun_in (plain h)
 plain_begun [] = refl
 plain_begun (r ∷ h) = refl
 
-plain_total : (w : ℕ) (h : History) → total_in w h ≡ total_in w (plain h)
-unfolding total_in
+plain_total : (w : ℕ) (h : History) → (tally_in w h).total ≡ (tally_in w (plain h)).total
+unfolding tally_in one_more
 plain_total w [] = refl
-plain_total w (r ∷ h) =
-    ap (λ (n : ℕ). if passes r.bytes then 0 else (if counts r.bytes && eqb (own_week r) w then suc n else n)) (plain_total w h)
+plain_total w (r ∷ h) = go (starts_period r.bytes) (value_of_week w r) (plain_total w h)
+  where
+    s : Entry
+    s = record { edition = 0; bytes = r.bytes }
+
+    old : Tally
+    old = tally_in w h
+
+    new : Tally
+    new = tally_in w (plain h)
+
+    go : (a b : Bool) → old.total ≡ new.total
+        → (if a then no_values else (if b then one_more (outside_when h r) old else old)).total
+        ≡ (if a then no_values else (if b then one_more (outside_when (plain h) s) new else new)).total
+    go true b e = refl
+    go false true e = ap (λ (n : ℕ). n + 1) e
+    go false false e = e
 
 plain_facts : (e : ℕ) (h : History) → facts_in e h ≡ facts_in e (plain h)
 unfolding facts_in
@@ -127,9 +143,9 @@ straight_through h k e = record {
   alarms = λ c a. (rw (setting, differences c) (λ x. x), rw (setting, differences c) (λ x. x));
   pending = by pending_in plain_pending;
   function = function;
-  total = λ w. by (total_in w) (plain_total w);
+  total = λ w. by (λ (h : History). (tally_in w h).total) (plain_total w);
   refusal = λ r. ap (λ (f : Facts). refusal_in f r.bytes) (by (facts_in r.edition) (plain_facts r.edition));
-  outside = λ w r. rw (function, setting);
+  outside = λ r. rw (function, setting);
 }
   where
     by : {B : Type 0} (f : History → B) → ((h : History) → f h ≡ f (plain h)) → f h ≡ f k

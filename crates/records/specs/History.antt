@@ -1,15 +1,17 @@
--- What the accepted records say, and nothing else: paper 01, 'Charts', 'Calibration', 'Weeks and calls (6.4.4)' and 'Usable', paper 02, C-11 to C-13,
--- and the mission's statement 3.
--- A history is the list of accepted records, each with the edition of its block, newest first, so that "since the last" is plain recursion.
-use Rattle.std.specs.Prelude.{◌≡◌, Bool, true, false, ◌&&◌, ◌||◌, List, [], ◌∷◌, ◌++◌, map, ℕ, zero, suc, ◌-◌, ◌≤◌, ltb, eqb, ℤ, length, if◌then◌else◌, None, Some}
+-- What the accepted records say, and nothing else: paper 01, 'Charts', 'Calibration', 'Weeks and calls (6.4.4)' and 'Usable',
+-- paper 02, C-11 to C-13, and the mission's statement 3.
+-- A history is the list of accepted records, each with the edition of its block, newest first, so that "since the last" is
+-- plain recursion.
+use Rattle.std.specs.Prelude.{◌≡◌, Bool, true, false, ◌&&◌, List, [], ◌∷◌, ◌++◌, map, ℕ, suc, ◌-◌, ◌≤◌, ltb, eqb, ℤ, length, if◌then◌else◌, None, Some}
 use Rattle.std.proofs.Math.Option.{Option, none, some, get_or}
 use Rattle.charts.specs.Runs.{Alarm, Stands}
 use Rattle.records.specs.Lists.{since, those, any}
 use Rattle.records.specs.Record.{Record, minute, setting_of, difference_of, waiting_of, function_of}
-use Rattle.records.specs.Kinds.{Point, no_setting, at_zero, at_span, reads, resets, sets, pairs, empties, calibrates, passes, fails, counts, deviation_of, week_of, outside_by, exceeds, Calibration}
+use Rattle.records.specs.Kinds.{Point, no_setting, at_zero, at_span, reads, resets, sets, is_pair, fails, empties, comes_into_force, clears_calls, starts_period, counts, deviation_of, week_of, outside_by, no_values, one_more, exceeds, raises_call, Calibration}
 use Rattle.records.specs.Table.{Facts, refusal_in}
 use Rattle.records.specs.declared.state.Setting.{Setting}
 use Rattle.records.specs.declared.state.Waiting.{Waiting}
+use Rattle.records.specs.declared.state.Tally.{Tally}
 
 -- an accepted record, and beside it the edition of its block (paper 02, C-12)
 pub record Entry : Type 0 where
@@ -54,71 +56,68 @@ unfoldable pub pending_in : History → List Waiting
 pending_in [] = []
 pending_in (r ∷ h) =
     if empties r.bytes then []
-    else (if pairs r.bytes then pending_in h ++ (waiting_of r.bytes ∷ [])
+    else (if is_pair r.bytes then pending_in h ++ (waiting_of r.bytes ∷ [])
     else pending_in h)
 
 -- the newest passed calibration, with its stored figures
 unfoldable pub function_in : History → Calibration
 function_in [] = None
-function_in (r ∷ h) = if calibrates r.bytes then Some (function_of r.bytes) else function_in h
+function_in (r ∷ h) = if comes_into_force r.bytes then Some (function_of r.bytes) else function_in h
 
 -- ---- weeks
 
 abbrev pub own_week : Entry → ℕ
 own_week r = week_of (minute r.bytes)
 
--- of how many records of the period p holds, the period being what came after the last passed closing; p may look at the records before
-abbrev pub tally : (History → Entry → Bool) → History → ℕ
-tally p [] = 0
-tally p (r ∷ h) = if passes r.bytes then 0 else (if p h r then suc (tally p h) else tally p h)
-
 -- a value that counts, of week w
-abbrev pub value_of_week : ℕ → History → Entry → Bool
-value_of_week w h r = counts r.bytes && eqb (own_week r) w
+abbrev pub value_of_week : ℕ → Entry → Bool
+value_of_week w r = counts r.bytes && eqb (own_week r) w
 
--- Such a value that was outside when it was applied. It is judged by its own block's edition, against the top in force; a week's tally may have values of
--- both editions (paper 02, C-13).
-abbrev pub outside_of_week : ℕ → History → Entry → Bool
-outside_of_week w h r = value_of_week w h r && outside_by r.edition (function_in h) (setting_in h) r.bytes
+-- It was outside when it was applied. It is judged by its own block's edition, against the top in force; a week's tally may have
+-- values of both editions (paper 02, C-13).
+abbrev pub outside_when : History → Entry → Bool
+outside_when h r = outside_by r.edition (function_in h) (setting_in h) r.bytes
 
-unfoldable pub total_in : ℕ → History → ℕ
-total_in w h = tally (value_of_week w) h
-
-unfoldable pub outside_in : ℕ → History → ℕ
-outside_in w h = tally (outside_of_week w) h
-
--- Week w of the period is over so many percent. Paper 02, C-11, has a week not judged where none of its values counts: its total is 0, and
--- so is the number outside, so that no percentage is exceeded.
-abbrev pub week_exceeds : ℕ → History → ℕ → Bool
-week_exceeds percent h w = exceeds percent (outside_in w h) (total_in w h)
-
--- how many weeks before week n the test p holds of
-abbrev pub weeks_below : (ℕ → Bool) → ℕ → ℕ
-weeks_below p zero = 0
-weeks_below p (suc n) = if p n then suc (weeks_below p n) else weeks_below p n
+-- the values of week w in the period, and those outside among them
+unfoldable pub tally_in : ℕ → History → Tally
+tally_in w [] = no_values
+tally_in w (r ∷ h) =
+    if starts_period r.bytes then no_values
+    else (if value_of_week w r then one_more (outside_when h r) (tally_in w h)
+    else tally_in w h)
 
 abbrev pub last_week : History → ℕ
 last_week h = week_of (last_minute h)
-
--- how many weeks of the period, before the last record's, are over 5 percent
-unfoldable pub weeks_over : History → ℕ
-weeks_over h = weeks_below (week_exceeds 5 h) (last_week h)
-
--- ---- calls for a new calibration
 
 -- r is of a later week than the records before it
 abbrev pub turns : History → Entry → Bool
 turns h r = ltb (last_week h) (own_week r)
 
--- r is of a later week, and the week of the last record, judged on r, raises a call: over 40 percent, or the sixth of its period over 5 percent.
-unfoldable pub week_calls : History → Entry → Bool
-week_calls h r = turns h r && (week_exceeds 40 h (last_week h) || week_exceeds 5 h (last_week h) && eqb (weeks_over h) 5)
+-- THE WEEK THAT IS JUDGED on r, before r is applied: that of the last record, within its period, where r is of a later week. With
+-- no values no week is judged (paper 02, C-11).
+unfoldable pub judged_on : History → Entry → Tally
+judged_on h r = if turns h r then tally_in (last_week h) h else no_values
 
--- the minutes of the calls since the last passed calibration, newest first: of a record's own two, its failed closing is newer than the week judged on it
+-- how many weeks judged in the period were over 5 percent
+unfoldable pub weeks_over : History → ℕ
+weeks_over [] = 0
+weeks_over (r ∷ h) =
+    if starts_period r.bytes then 0
+    else (if exceeds 5 (judged_on h r) then suc (weeks_over h)
+    else weeks_over h)
+
+-- ---- calls for a new calibration
+
+-- the week that is judged on r raises a call
+unfoldable pub week_calls : History → Entry → Bool
+week_calls h r = raises_call (judged_on h r) (weeks_over h)
+
+-- the minutes of the calls since they were last cleared, newest first: of a record's own two, its failed closing is newer than
+-- the week judged on it
 unfoldable pub calls_in : History → List ℕ
 calls_in [] = []
 calls_in (r ∷ h) =
-    if calibrates r.bytes then []
+    if clears_calls r.bytes then []
     else (if fails r.bytes then minute r.bytes ∷ [] else []) ++ (if week_calls h r then minute r.bytes ∷ [] else []) ++ calls_in h
 
 -- the last of a list
@@ -140,8 +139,8 @@ abbrev pub Recent : ℕ → ℕ → Option ℕ → Type 0
 Recent limit m none = Unit {0}
 Recent limit m (some from) = m - from ≤ limit
 
--- No alarm; a calibration was passed, at most 2,629,440 minutes before the last record; and if there were calls since then, the first of
--- them came at most 263,520 minutes before it.
+-- No alarm; a calibration was passed, at most 2,629,440 minutes before the last record; and if there were calls since then, the
+-- first of them came at most 263,520 minutes before it.
 pub record Usable (h : History) : Type 0 where
   pub quiet : (c : Point) (a : Alarm) → ¬ AlarmStands c a h
   pub from : ℕ

@@ -12,7 +12,7 @@ pub mod StateParts
 pub mod Soundness
 pub mod InPlace
 pub mod WeekLaws
-pub mod Agreement
+pub mod Summary
 pub mod Answers
 pub mod EditionLaws
 pub mod Steps

@@ -94,8 +94,8 @@ pub record Sound (most : ℕ) (st : State) : Type 0 where
   pub pending : st.pending ≤ 30
   pub pairs : AllSound (take st.pending st.pairs)
   pub calibration : CalibrationSound st.calibration
-  pub total : st.total ≤ most
-  pub outside : st.outside ≤ most
+  pub total : st.tally.total ≤ most
+  pub outside : st.tally.outside ≤ most
   pub over : st.over ≤ most
 
 -- The counts leave room for one record more, in 32 bits. No list of calls comes near: it has at most 12,000,000 records.
@@ -109,7 +109,7 @@ unfoldable pub sound_of : ℕ → State → Bool
 sound_of most st =
     (((leb st.minute minute_limit && begun_sound_of st.begun st.setting) && (C.sound_of st.zero && C.sound_of st.span))
     && ((leb st.pending 30 && all_sound_of (take st.pending st.pairs)) && calibration_sound_of st.calibration))
-    && ((leb st.total most && leb st.outside most) && leb st.over most)
+    && ((leb st.tally.total most && leb st.tally.outside most) && leb st.over most)
 
 pub sound_answers : (most : ℕ) (st : State) → Answers (sound_of most st) (Sound most st)
 unfolding sound_of
@@ -119,7 +119,7 @@ sound_answers most st =
     (answers_and
     (answers_and (answers_and (answers_le st.minute minute_limit) (begun_answers st.begun st.setting)) (answers_and (C.sound_answers st.zero) (C.sound_answers st.span)))
     (answers_and (answers_and (answers_le st.pending 30) (all_answers (take st.pending st.pairs))) (calibration_answers st.calibration)))
-    (answers_and (answers_and (answers_le st.total most) (answers_le st.outside most)) (answers_le st.over most)))
+    (answers_and (answers_and (answers_le st.tally.total most) (answers_le st.tally.outside most)) (answers_le st.over most)))
     (λ p. record {
       minute = p.0.0.0.0;
       setting = p.0.0.0.1;

@@ -1,16 +1,17 @@
 -- The state (paper 01: the standing): its beginning, its refusal of a record, and what an accepted record makes of it. Its edition (paper 02, C-12) is
 -- that of the block in which the next record stands, and between blocks that of the last one: 0 before the first, which rounds as 1 does.
-use Rattle.std.specs.Prelude.{Bool, true, false, ◌&&◌, ◌||◌, List, ℕ, ◌+◌, eqb, ltb, pos, take, set, replicate, if◌then◌else◌, None, Some, Result, Ok, Err}
+use Rattle.std.specs.Prelude.{Bool, true, false, ◌||◌, List, ℕ, ◌+◌, eqb, ltb, pos, take, set, replicate, if◌then◌else◌, None, Some, Result, Ok, Err}
 use Rattle.refusals.specs.Rows.{number_of}
 use Rattle.refusals.specs.declared.Refusal.{Refusal}
 use Rattle.charts.specs.Charts.{blank, reset_of, applied_of}
 use Rattle.charts.specs.declared.Chart.{Chart}
 use Rattle.records.specs.Record.{Record, minute, setting_of, difference_of, waiting_of, function_of}
-use Rattle.records.specs.Kinds.{Point, no_setting, at_zero, at_span, reads, resets, sets, pairs, empties, calibrates, passes, fails, counts, deviation_of, week_of, outside_by, exceeds, Demand}
+use Rattle.records.specs.Kinds.{Point, no_setting, at_zero, at_span, reads, resets, sets, is_pair, fails, empties, comes_into_force, clears_calls, starts_period, counts, deviation_of, week_of, outside_by, no_values, one_more, exceeds, raises_call, Demand}
 use Rattle.records.specs.Table.{Facts, refusal_in}
 use Rattle.records.specs.declared.state.Setting.{Setting}
 use Rattle.records.specs.declared.state.Waiting.{Waiting}
 use Rattle.records.specs.declared.state.State.{State}
+use Rattle.records.specs.declared.state.Tally.{Tally}
 
 -- a place of the pair array that holds none
 unfoldable pub no_pair : Waiting
@@ -36,8 +37,7 @@ initial_of analyser = record {
   pending = 0;
   pairs = no_pairs;
   calibration = None;
-  total = 0;
-  outside = 0;
+  tally = no_values;
   over = 0;
   demand = None;
   edition = 0;
@@ -72,9 +72,13 @@ chart_after edition c s r k =
 abbrev pub turns_from : ℕ → ℕ → Bool
 turns_from before after = ltb (week_of before) (week_of after)
 
--- the week that ends raises a call
-unfoldable pub judges : State → Bool
-judges st = exceeds 40 st.outside st.total || exceeds 5 st.outside st.total && eqb st.over 5
+-- THE WEEK THAT IS JUDGED on a record of minute m: that of the last one, where m is of a later week. With no values no week is judged.
+unfoldable pub judged_at : State → ℕ → Tally
+judged_at st m = if turns_from st.minute m then st.tally else no_values
+
+-- the week that m goes on with
+unfoldable pub running_at : State → ℕ → Tally
+running_at st m = if turns_from st.minute m then no_values else st.tally
 
 -- the first call stays the first
 unfoldable pub raised_of : Demand → ℕ → Demand
@@ -84,9 +88,8 @@ raised_of (Some first) m = Some first
 -- The state after an accepted record: the week is judged first where the record is of a later one, then the record is applied.
 unfoldable pub applied_to : State → Record → State
 applied_to st r =
-    let turn : Bool = turns_from st.minute (minute r) in
-    let total : ℕ = if turn then 0 else st.total in
-    let outside : ℕ = if turn then 0 else st.outside in
+    let judged : Tally = judged_at st (minute r) in
+    let running : Tally = running_at st (minute r) in
     record {
       analyser = st.analyser;
       next = st.next;
@@ -95,13 +98,18 @@ applied_to st r =
       setting = if sets r then setting_of r else st.setting;
       zero = chart_after st.edition at_zero st.setting r st.zero;
       span = chart_after st.edition at_span st.setting r st.span;
-      pending = if empties r then 0 else (if pairs r then st.pending + 1 else st.pending);
-      pairs = if empties r then no_pairs else (if pairs r then set st.pairs st.pending (waiting_of r) else st.pairs);
-      calibration = if calibrates r then Some (function_of r) else st.calibration;
-      total = if passes r then 0 else (if counts r then total + 1 else total);
-      outside = if passes r then 0 else (if counts r && outside_by st.edition st.calibration st.setting r then outside + 1 else outside);
-      over = if passes r then 0 else (if turn && exceeds 5 st.outside st.total then st.over + 1 else st.over);
-      demand = if calibrates r then None else (if fails r || turn && judges st then raised_of st.demand (minute r) else st.demand);
+      pending = if empties r then 0 else (if is_pair r then st.pending + 1 else st.pending);
+      pairs = if empties r then no_pairs else (if is_pair r then set st.pairs st.pending (waiting_of r) else st.pairs);
+      calibration = if comes_into_force r then Some (function_of r) else st.calibration;
+      tally =
+          if starts_period r then no_values
+          else (if counts r then one_more (outside_by st.edition st.calibration st.setting r) running
+          else running);
+      over = if starts_period r then 0 else (if exceeds 5 judged then st.over + 1 else st.over);
+      demand =
+          if clears_calls r then None
+          else (if fails r || raises_call judged st.over then raised_of st.demand (minute r)
+          else st.demand);
       edition = st.edition;
     }
 

@@ -2,15 +2,15 @@
 // be taken apart there.
 ghost use Rattle.std.specs.Prelude.{◌≡◌, ◌≢◌, true, false, ◌+◌, ◌<◌, ◌≤◌, if◌then◌else◌};
 ghost use Rattle.charts.specs.Soundness.{Sound as Charts-as-Sound};
-ghost use Rattle.records.specs.Record.{mark, minute, reading_ranged, value_ranged};
-ghost use Rattle.records.specs.Kinds.{exceeds as Kinds·exceeds, outside_by};
+ghost use Rattle.records.specs.Record.{kind, mark, minute, reading_ranged, value_ranged};
+ghost use Rattle.records.specs.Kinds.{exceeds as Kinds·exceeds, outside_by, raises_call as Kinds·raises_call};
 ghost use Rattle.records.specs.Soundness.{CalibrationSound, Fitting, SettingSound};
 ghost use Rattle.records.specs.Table.{reading_refusal, refusal_in};
-ghost use Rattle.records.specs.State.{applied_to, facts_of, initial_of, judges as State·judges, no_pair, raised_of};
+ghost use Rattle.records.specs.State.{applied_to, facts_of, initial_of, judged_at, no_pair, raised_of, running_at};
 ghost use Rattle.records.specs.InPlace.{InWeek, in_week_of};
 ghost use Rattle.records.specs.StateParts.{chart_at, deviation_at, emptied as StateParts·emptied, judged_of, with_chart, with_failure, with_function, with_pair, with_period, with_reading, with_reset, with_value};
 
-use crate::state::{Function, Setting, State, Waiting};
+use crate::state::{Function, Setting, State, Tally, Waiting};
 use crate::{bytes, fields};
 use charts::Chart;
 
@@ -23,7 +23,7 @@ fn no_pair() -> Waiting
 }
 
 // A fresh state for an analyser number.
-#[tactic(auto, unfolding(crate::specs::State::initial_of, crate::specs::Kinds::no_setting, crate::specs::State::no_pairs))]
+#[tactic(auto, unfolding(crate::specs::State::initial_of, crate::specs::Kinds::no_setting, crate::specs::Kinds::no_values, crate::specs::State::no_pairs))]
 pub fn initial(analyser: u32) -> State
     ensures { result ≡ initial_of analyser }
 {
@@ -38,8 +38,7 @@ pub fn initial(analyser: u32) -> State
         pending: 0,
         pairs: [no_pair(); 30],
         calibration: None,
-        total: 0,
-        outside: 0,
+        tally: Tally::default(),
         over: 0,
         demand: None,
         edition: 0,
@@ -48,35 +47,57 @@ pub fn initial(analyser: u32) -> State
 
 // ---- weeks
 
-// Whether more than so many percent are outside.
-fn exceeds(percent: u64, outside: u32, total: u32) -> bool
+// Whether more than a number of percent are outside.
+fn exceeds(percent: u64, t: Tally) -> bool
     requires { percent ≤ 100 }
-    ensures { result ≡ Kinds·exceeds percent outside total }
+    ensures { result ≡ Kinds·exceeds percent t }
 {
-    percent * u64::from(total) < 100 * u64::from(outside)
+    percent * u64::from(t.total) < 100 * u64::from(t.outside)
 }
 
-// Whether the week that ends raises a call.
-#[tactic(auto, unfolding(crate::specs::State::judges))]
-fn judges(st: State) -> bool
-    ensures { result ≡ State·judges st }
+// Whether a judged week raises a call: over 40 percent, or over 5 percent as the sixth of its period.
+#[tactic(auto, unfolding(crate::specs::Kinds::raises_call))]
+fn raises_call(t: Tally, over: u32) -> bool
+    ensures { result ≡ Kinds·raises_call t over }
 {
-    exceeds(40, st.outside, st.total) | (exceeds(5, st.outside, st.total) & (st.over == 5))
+    exceeds(40, t) | (exceeds(5, t) & (over == 5))
 }
 
-// The count of weeks over 5 percent, with the week that ends.
-fn weeks_over(over: u32, outside: u32, total: u32) -> u32
+// The week that is judged on a record of minute m: that of the last record, where m is of a later one, else one without values.
+#[tactic(auto, unfolding(crate::specs::State::judged_at, crate::specs::Kinds::no_values))]
+fn judged_week(st: State, m: u32) -> Tally
+    ensures { result ≡ judged_at st m }
+{
+    if m / 10080 <= st.minute / 10080 {
+        return Tally::default();
+    }
+    st.tally
+}
+
+// The week that m goes on with.
+#[tactic(auto, unfolding(crate::specs::State::running_at, crate::specs::Kinds::no_values))]
+fn running_week(st: State, m: u32) -> Tally
+    ensures { result ≡ running_at st m }
+{
+    if m / 10080 <= st.minute / 10080 {
+        return st.tally;
+    }
+    Tally::default()
+}
+
+// The count of weeks over 5 percent, with the week that is judged.
+fn weeks_over(over: u32, week: Tally) -> u32
     requires { over < 4294967295 }
-    ensures { result ≡ (if Kinds·exceeds 5 outside total then over + 1 else over) }
+    ensures { result ≡ (if Kinds·exceeds 5 week then over + 1 else over) }
 {
-    over + u32::from(exceeds(5, outside, total))
+    over + u32::from(exceeds(5, week))
 }
 
 // The first call stays the first.
-fn demand_after(st: State, m: u32) -> Option<u32>
-    ensures { result ≡ (if State·judges st then raised_of st.demand m else st.demand) }
+fn demand_after(st: State, week: Tally, m: u32) -> Option<u32>
+    ensures { result ≡ (if Kinds·raises_call week st.over then raised_of st.demand m else st.demand) }
 {
-    if judges(st) {
+    if raises_call(week, st.over) {
         return st.demand.or(Some(m));
     }
     st.demand
@@ -88,27 +109,19 @@ fn judged(st: State, m: u32) -> State
     requires { st.over < 4294967295 }
     ensures { result ≡ judged_of st m }
 {
-    if m / 10080 <= st.minute / 10080 {
-        return State {
-            begun: true,
-            minute: m,
-            ..st
-        };
-    }
+    let week = judged_week(st, m);
     State {
         begun: true,
         minute: m,
-        total: 0,
-        outside: 0,
-        over: weeks_over(st.over, st.outside, st.total),
-        demand: demand_after(st, m),
+        tally: running_week(st, m),
+        over: weeks_over(st.over, week),
+        demand: demand_after(st, week, m),
         ..st
     }
 }
 
 // ---- kinds
 
-#[tactic(auto, unfolding(crate::specs::StateParts::with_pair))]
 fn with_pair(mut st: State, w: Waiting) -> State
     requires { st.pending < 30 }
     ensures { result ≡ with_pair st w }
@@ -118,7 +131,7 @@ fn with_pair(mut st: State, w: Waiting) -> State
     st
 }
 
-#[tactic(auto, unfolding(crate::specs::StateParts::emptied, crate::specs::State::no_pairs))]
+#[tactic(auto, unfolding(crate::specs::State::no_pairs))]
 fn emptied(st: State) -> State
     ensures { result ≡ StateParts·emptied st }
 {
@@ -138,27 +151,25 @@ fn with_failure(st: State, m: u32) -> State
     }
 }
 
-#[tactic(auto, unfolding(crate::specs::StateParts::with_function))]
+#[tactic(auto, unfolding(crate::specs::Kinds::no_values))]
 fn with_function(st: State, f: Function) -> State
     ensures { result ≡ with_function (StateParts·emptied st) f }
 {
     State {
         calibration: Some(f),
-        total: 0,
-        outside: 0,
+        tally: Tally::default(),
         over: 0,
         demand: None,
         ..emptied(st)
     }
 }
 
-#[tactic(auto, unfolding(crate::specs::StateParts::with_period))]
+#[tactic(auto, unfolding(crate::specs::Kinds::no_values))]
 fn with_period(st: State) -> State
     ensures { result ≡ with_period (StateParts·emptied st) }
 {
     State {
-        total: 0,
-        outside: 0,
+        tally: Tally::default(),
         over: 0,
         ..emptied(st)
     }
@@ -188,17 +199,17 @@ fn outside(st: &State, r: &[u8; 40]) -> bool
 // A value: with another mark than 0 it doesn't count in its week. Values and readings, which are most records, lend the state and are inlined: by value, or at a
 // call, it is copied with its thirty pairs, and the reader takes up to twice as long.
 #[inline(always)]
-#[tactic(auto, unfolding(crate::specs::StateParts::with_value, crate::specs::Record::mark, crate::specs::StateParts::with_tally))]
+#[tactic(auto, unfolding(crate::specs::StateParts::with_value, crate::specs::Kinds::counts, crate::specs::Kinds::one_more, crate::specs::Record::kind, crate::specs::Record::mark))]
 fn count_value(st: &mut State, r: &[u8; 40])
-    requires counts { (st.old.total < 4294967295) × (st.old.outside < 4294967295) }
-    requires figures { CalibrationSound st.old.calibration × SettingSound st.old.setting × (value_ranged r.now ≡ true) }
-    ensures { st.new ≡ with_value st.old (mark r.now) (outside_by st.old.edition st.old.calibration st.old.setting r.now) }
+    requires counts { (st.old.tally.total < 4294967295) × (st.old.tally.outside < 4294967295) }
+    requires figures { (kind r.now ≡ 7) × CalibrationSound st.old.calibration × SettingSound st.old.setting × (value_ranged r.now ≡ true) }
+    ensures { st.new ≡ with_value st.old r.now }
 {
     if r[1] != 0 {
         return;
     }
-    st.total += 1;
-    st.outside += u32::from(outside(&*st, r));
+    st.tally.total += 1;
+    st.tally.outside += u32::from(outside(&*st, r));
 }
 
 // The chart of a mark is changed, 0 for zero and 1 for span. Its standard deviation goes with it. A closure, since a function that lends the chart of a mark makes
@@ -225,7 +236,7 @@ fn take_reading(st: &mut State, r: &[u8; 40])
     change_chart(&mut *st, r[1], |chart, s| chart.apply(edition, s, d));
 }
 
-#[tactic(auto, unfolding(crate::specs::StateParts::with_reset, crate::specs::StateParts::with_zero, crate::specs::StateParts::with_span, crate::specs::Record::mark))]
+#[tactic(auto, unfolding(crate::specs::StateParts::with_reset, crate::specs::Record::mark))]
 fn with_reset(mut st: State, r: &[u8; 40]) -> State
     ensures { result ≡ with_reset st r.now }
 {

@@ -54,5 +54,5 @@ pub fn sound(most: u32, st: State) -> bool
         & (st.zero.sound() & st.span.sound()))
         & (((st.pending <= 30) & pairs_sound(&st.pairs[..st.pending as usize]))
             & calibration_sound(st.calibration)))
-        & (((st.total <= most) & (st.outside <= most)) & (st.over <= most))
+        & (((st.tally.total <= most) & (st.tally.outside <= most)) & (st.over <= most))
 }

@@ -44,6 +44,13 @@ impl Function {
     }
 }
 
+// The values of a week that count, and how many of them are outside.
+#[derive(Clone, Copy, Default)]
+pub struct Tally {
+    pub total: u32,
+    pub outside: u32,
+}
+
 // The standing: an analyser, the block number that it expects, a summary of the accepted records, and the edition of the block that is open,
 // or between blocks that of the last one taken or formed: 0 before the first. `calibration` is the function in force, and `demand` the minute of the first
 // call for a new one since it. Thirty places stand beside their count, since the state goes by value in fixed
@@ -61,8 +68,7 @@ pub struct State {
     pub pending: u32,
     pub pairs: [Waiting; 30],
     pub calibration: Option<Function>,
-    pub total: u32,
-    pub outside: u32,
+    pub tally: Tally,
     pub over: u32,
     pub demand: Option<u32>,
     pub edition: u8,

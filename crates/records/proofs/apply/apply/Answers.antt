@@ -8,7 +8,7 @@ use Rattle.records.specs.Kinds.{sets}
 use Rattle.records.specs.Table.{reading_refusal}
 use Rattle.records.proofs.TableLaws.{Accepted, accepted, reading_passed, pair_passed, PairPasses, pair_passes}
 use Rattle.records.specs.State.{facts_of}
-use Rattle.records.specs.StateParts.{with_setting, with_reading, with_reset, with_calibration, with_annual, emptied, judged_of}
+use Rattle.records.specs.StateParts.{with_reading, with_reset, with_calibration, with_annual, emptied, judged_of}
 use Rattle.records.proofs.SoundnessLaws.{setting_known}
 use Rattle.records.specs.declared.state.State.{State}
 use Rattle.records.proofs.ApplyLaws.{judged_total, judged_outside, applied_setting, applied_reading, applied_reset, applied_pair, applied_calibration, applied_annual, calibration_by, annual_by, applied_value, applied_drop}
@@ -73,11 +73,11 @@ count_value-requires c =
     let k = c.in-7.is in
     rw (judged-is j) record {
       counts = (omega (arith, judged_total (state_of j) (recordOf j), S.total), omega (arith, judged_outside (state_of j) (recordOf j), S.outside));
-      figures = (S.calibration, setting_known (state_of j) (recordOf j) (passed j).placed (rw k tt) S.setting, value_ranged_lem (recordOf j) (passed j).ranged k);
+      figures = (k, S.calibration, setting_known (state_of j) (recordOf j) (passed j).placed (rw k tt) S.setting, value_ranged_lem (recordOf j) (passed j).ranged k);
     }
 
 pub returns-in-1 : goal.returns-in-1
-unfolding kind with_setting
+unfolding kind
 returns-in-1 c =
     let j = (goal.at.returns-in-1 c).After-judged-s in
     rw (judged-is j, c.setting_of.ensures) (applied_setting (state_of j) (recordOf j) c.in-1.is)

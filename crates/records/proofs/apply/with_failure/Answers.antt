@@ -1,8 +1,8 @@
 -- `apply::with_failure` meets its contract.
-use Rattle.records.specs.StateParts.{with_demand, with_failure}
+use Rattle.records.specs.StateParts.{with_failure}
 use Rattle.records.proofs.ApplyLaws.{raised_or}
 use Rattle.records.proofs.apply.with_failure.Goals as goal
 
 pub returns : goal.returns
-unfolding with_demand with_failure
+unfolding with_failure
 returns c = rw (c.before.emptied.ensures, c.or.ensures, raised_or)

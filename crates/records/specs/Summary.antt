@@ -1,14 +1,13 @@
--- The state is the summary of the history: what it means that they agree. Each field is an equation, but for the analyser and the block
--- number, which the history does not have, and the edition, since a block may be open with no record yet (paper 02, C-12).
+-- The state is the summary of the accepted records and of a place in the file.
 use Rattle.std.specs.Prelude.{◌≡◌, List, [], ◌∷◌, ◌++◌, map, ℕ, ◌-◌, length, replicate, if◌then◌else◌, None, Some}
 use Rattle.std.proofs.Math.Option.{Option, none, some}
 use Rattle.charts.specs.Charts.{blank, reset_of}
 use Rattle.charts.specs.Readings.{Reading, after_readings}
 use Rattle.charts.specs.declared.Chart.{Chart}
 use Rattle.records.specs.Lists.{since, those}
-use Rattle.records.specs.Record.{difference_of}
+use Rattle.records.specs.Record.{Record, difference_of}
 use Rattle.records.specs.Kinds.{Point, at_zero, at_span, reads, resets, deviation_of, Demand}
-use Rattle.records.specs.History.{Entry, History, on, begun_in, last_minute, setting_in, started_in, pending_in, function_in, last_week, total_in, outside_in, weeks_over, first_call, refusal_of}
+use Rattle.records.specs.History.{Entry, History, on, begun_in, last_minute, setting_in, started_in, pending_in, function_in, last_week, tally_in, weeks_over, first_call, refusal_of}
 use Rattle.records.specs.State.{no_pair}
 use Rattle.records.specs.declared.state.Waiting.{Waiting}
 use Rattle.records.specs.declared.state.State.{State}
@@ -38,16 +37,32 @@ abbrev pub demand_of : Option ℕ → Demand
 demand_of none = None
 demand_of (some m) = Some m
 
-pub record Agrees (h : History) (st : State) : Type 0 where
-  pub begun : st.begun ≡ begun_in h
-  pub minute : st.minute ≡ last_minute h
-  pub setting : st.setting ≡ setting_in h
-  pub zero : st.zero ≡ chart_in at_zero h
-  pub span : st.span ≡ chart_in at_span h
-  pub pending : st.pending ≡ length (pending_in h)
-  pub pairs : st.pairs ≡ padded (pending_in h)
-  pub calibration : st.calibration ≡ function_in h
-  pub total : st.total ≡ total_in (last_week h) h
-  pub outside : st.outside ≡ outside_in (last_week h) h
-  pub over : st.over ≡ weeks_over h
-  pub demand : st.demand ≡ demand_of (first_call h)
+-- What no record says: the analyser, the number of the next block, and the edition of the block that is open, or between blocks
+-- that of the last one, since a block may be open with no record yet (paper 02, C-12).
+pub record Place : Type 0 where
+  pub analyser : ℕ
+  pub next : ℕ
+  pub edition : ℕ
+
+-- a record of the block that is open
+abbrev pub entry_at : Place → Record → Entry
+entry_at p r = record { edition = p.edition; bytes = r }
+
+-- THE SUMMARY: the state that a place and a history lead to
+unfoldable pub summary_of : Place → History → State
+summary_of p h = record {
+  analyser = p.analyser;
+  next = p.next;
+  begun = begun_in h;
+  minute = last_minute h;
+  setting = setting_in h;
+  zero = chart_in at_zero h;
+  span = chart_in at_span h;
+  pending = length (pending_in h);
+  pairs = padded (pending_in h);
+  calibration = function_in h;
+  tally = tally_in (last_week h) h;
+  over = weeks_over h;
+  demand = demand_of (first_call h);
+  edition = p.edition;
+}

@@ -1,0 +1,129 @@
+-- The weeks over 5 percent, read a second way: week by week through the calendar, and a week that ends raises a call by that count. Of a history whose
+-- minutes never fall, as those of accepted records never do, both readings say the same.
+use Rattle.std.specs.Prelude.{◌≡◌, refl, Bool, true, false, not, ◌&&◌, ◌||◌, [], ◌∷◌, ℕ, zero, suc, ◌<◌, ◌≤◌, eqb, ltb, T, if◌then◌else◌}
+use Rattle.std.proofs.Common.{sym, ap, ◌∙◌, arith, ltb→lt, nltb→le, eqb→eq}
+use Rattle.records.specs.Kinds.{starts_period, counts, no_values, one_more, exceeds, raises_call}
+use Rattle.records.specs.History.{Entry, History, own_week, last_week, outside_when, tally_in, turns, judged_on, weeks_over, week_calls}
+use Rattle.records.specs.Summary.{Taken}
+use Rattle.records.specs.WeekLaws.{Ordered, none_later}
+use Rattle.records.proofs.SummaryLaws.{ordered}
+
+-- week w of the period is over a number of percent
+abbrev pub week_exceeds : ℕ → History → ℕ → Bool
+week_exceeds percent h w = exceeds percent (tally_in w h)
+
+-- how many weeks before week n the test p holds of
+abbrev pub weeks_below : (ℕ → Bool) → ℕ → ℕ
+weeks_below p zero = 0
+weeks_below p (suc n) = if p n then suc (weeks_below p n) else weeks_below p n
+
+-- how many weeks of the period, before the last record's, are over 5 percent
+unfoldable pub weeks_counted : History → ℕ
+weeks_counted h = weeks_below (week_exceeds 5 h) (last_week h)
+
+-- ---- what a record does to the count
+
+below_same : (p q : ℕ → Bool) (n : ℕ) → ((w : ℕ) → w < n → p w ≡ q w) → weeks_below p n ≡ weeks_below q n
+below_same p q zero f = refl
+below_same p q (suc n) f = rw (f n (omega arith), below_same p q n (λ w l. f w (omega arith)))
+
+below_none : (p : ℕ → Bool) (m n : ℕ) → m ≤ n → ((w : ℕ) → m ≤ w → p w ≡ false) → weeks_below p n ≡ weeks_below p m
+below_none p m zero l f = let e : m ≡ 0 = omega arith in rw e
+below_none p m (suc n) l f = go (ltb m (suc n)) (λ t. ltb→lt m (suc n) t) (λ t. nltb→le m (suc n) t) (λ l'. below_none p m n l' f)
+  where
+    go : (b : Bool) → (T b → m < suc n) → (T (not b) → suc n ≤ m) → (m ≤ n → weeks_below p n ≡ weeks_below p m) → weeks_below p (suc n) ≡ weeks_below p m
+    go true g k ih = let l' = g tt in rw (f n (omega arith)) (ih (omega arith))
+    go false g k ih = let l' = k tt in let e : m ≡ suc n = omega arith in rw e
+
+-- a week after the last is empty
+later_empty : (h : History) → Ordered h → (w : ℕ) → last_week h < w → week_exceeds 5 h w ≡ false
+unfolding no_values
+later_empty h o w l = rw (none_later h o w l)
+
+-- a record changes no week but its own
+other_week : (r : Entry) (h : History) (w : ℕ) → w < own_week r → tally_in w (r ∷ h) ≡ (if starts_period r.bytes then no_values else tally_in w h)
+unfolding tally_in
+other_week r h w l = go (counts r.bytes) (eqb (own_week r) w) (λ t. eqb→eq (own_week r) w t)
+  where
+    go : (b c : Bool) → (T c → own_week r ≡ w)
+        → (if starts_period r.bytes then no_values else (if b && c then one_more (outside_when h r) (tally_in w h) else tally_in w h)) ≡ (if starts_period r.bytes then no_values else tally_in w h)
+    go true true f = let e = f tt in absurd (omega arith)
+    go true false f = refl
+    go false c f = refl
+
+exceeds_other : (r : Entry) (h : History) (w : ℕ) → w < own_week r → week_exceeds 5 (r ∷ h) w ≡ (if starts_period r.bytes then false else week_exceeds 5 h w)
+unfolding no_values
+exceeds_other r h w l = rw (other_week r h w l) (go (starts_period r.bytes))
+  where
+    go : (b : Bool) → exceeds 5 (if b then no_values else tally_in w h) ≡ (if b then false else exceeds 5 (tally_in w h))
+    go true = refl
+    go false = refl
+
+none_over : (n : ℕ) → weeks_below (λ w. false) n ≡ 0
+none_over zero = refl
+none_over (suc n) = none_over n
+
+-- the weeks before that of r: those before the last week, and that one if r brings a later
+turned : (r : Entry) (h : History) → Ordered (r ∷ h)
+    → (if turns h r && week_exceeds 5 h (last_week h) then suc (weeks_counted h) else weeks_counted h) ≡ weeks_below (week_exceeds 5 h) (own_week r)
+unfolding weeks_counted
+turned r h o = go (turns h r) (λ t. ltb→lt (last_week h) (own_week r) t) (λ t. nltb→le (last_week h) (own_week r) t)
+  where
+    go : (b : Bool) → (T b → last_week h < own_week r) → (T (not b) → own_week r ≤ last_week h)
+        → (if b && week_exceeds 5 h (last_week h) then suc (weeks_below (week_exceeds 5 h) (last_week h)) else weeks_below (week_exceeds 5 h) (last_week h))
+        ≡ weeks_below (week_exceeds 5 h) (own_week r)
+    go true f g = sym (below_none (week_exceeds 5 h) (suc (last_week h)) (own_week r) (f tt) (later_empty h o.1))
+    go false f g =
+        let l = g tt in
+        let e : last_week h ≡ own_week r = omega (arith, o.0) in
+        ap (weeks_below (week_exceeds 5 h)) e
+
+weeks_step : (r : Entry) (h : History) → Ordered (r ∷ h)
+    → weeks_counted (r ∷ h) ≡ (if starts_period r.bytes then 0 else (if turns h r && week_exceeds 5 h (last_week h) then suc (weeks_counted h) else weeks_counted h))
+unfolding weeks_counted
+weeks_step r h o = go (starts_period r.bytes) (exceeds_other r h)
+  where
+    go : (b : Bool) → ((w : ℕ) → w < own_week r → week_exceeds 5 (r ∷ h) w ≡ (if b then false else week_exceeds 5 h w))
+        → weeks_below (week_exceeds 5 (r ∷ h)) (own_week r) ≡ (if b then 0 else (if turns h r && week_exceeds 5 h (last_week h) then suc (weeks_counted h) else weeks_counted h))
+    go true f = below_same (week_exceeds 5 (r ∷ h)) (λ w. false) (own_week r) f ∙ none_over (own_week r)
+    go false f = below_same (week_exceeds 5 (r ∷ h)) (week_exceeds 5 h) (own_week r) f ∙ sym (turned r h o)
+
+-- ---- the two readings are one
+
+judged_exceeds : (percent : ℕ) → exceeds percent no_values ≡ false → (h : History) (r : Entry) → exceeds percent (judged_on h r) ≡ (turns h r && week_exceeds percent h (last_week h))
+unfolding judged_on
+judged_exceeds percent none h r = go (turns h r)
+  where
+    go : (b : Bool) → exceeds percent (if b then tally_in (last_week h) h else no_values) ≡ (b && week_exceeds percent h (last_week h))
+    go true = refl
+    go false = none
+
+pub same_weeks : (h : History) → Ordered h → weeks_over h ≡ weeks_counted h
+unfolding weeks_over weeks_counted no_values
+same_weeks [] o = refl
+same_weeks (r ∷ h) o = rw (judged_exceeds 5 refl h r, same_weeks h o.1) (sym (weeks_step r h o))
+
+-- r is of a later week, and by the calendar the last record's week calls: over 40 percent, or the sixth of its period over 5 percent
+abbrev pub calls_counted : History → Entry → Bool
+calls_counted h r = turns h r && (week_exceeds 40 h (last_week h) || week_exceeds 5 h (last_week h) && eqb (weeks_counted h) 5)
+
+pub same_calls : (h : History) (r : Entry) → Ordered h → week_calls h r ≡ calls_counted h r
+unfolding week_calls raises_call no_values
+same_calls h r o = rw (judged_exceeds 40 refl h r, judged_exceeds 5 refl h r, same_weeks h o) (go (turns h r))
+  where
+    a : Bool
+    a = week_exceeds 40 h (last_week h)
+
+    b : Bool
+    b = week_exceeds 5 h (last_week h)
+
+    go : (t : Bool) → (t && a) || (t && b) && eqb (weeks_counted h) 5 ≡ t && (a || b && eqb (weeks_counted h) 5)
+    go true = refl
+    go false = refl
+
+-- so of every list of accepted records
+pub taken_weeks : (h : History) → Taken h → weeks_over h ≡ weeks_counted h
+taken_weeks h t = same_weeks h (ordered h t)
+
+pub taken_calls : (h : History) (r : Entry) → Taken h → week_calls h r ≡ calls_counted h r
+taken_calls h r t = same_calls h r (ordered h t)
