@@ -20,7 +20,7 @@ use Rattle.records.specs.Steps.{Ran}
 use Rattle.records.specs.Soundness.{SettingSound, BegunSound, Sound, Fitting}
 use Rattle.records.proofs.SoundnessLaws.{weaken}
 use Rattle.records.specs.declared.state.State.{State}
-use Rattle.file.specs.Blocks.{told_refusal}
+use Rattle.blocks.specs.Blocks.{told_refusal}
 use Rattle.file.specs.Taking.{records, records_fit}
 use Rattle.file.specs.Calls.{opened, ready_of}
 use Rattle.file.specs.FitLaws.{opened_pairs, opened_ready}

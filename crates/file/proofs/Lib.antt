@@ -1,7 +1,3 @@
-pub mod CheckTable
-pub mod CheckFill
-pub mod CheckTen
-pub mod CheckLoop
 pub mod TakeLaws
 pub mod ZeroLaws
 pub mod SignedLaws

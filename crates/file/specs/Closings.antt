@@ -10,7 +10,7 @@ use Rattle.records.specs.Table.{Facts, untimely, calibration_of, annual_of, pass
 use Rattle.records.specs.State.{facts_of}
 use Rattle.records.specs.Steps.{Ran, ran_from, state_rules}
 use Rattle.records.specs.declared.state.State.{State}
-use Rattle.file.specs.Blocks.{told_refusal}
+use Rattle.blocks.specs.Blocks.{told_refusal}
 use Rattle.file.specs.Taking.{records, records_fit}
 use Rattle.file.specs.Calls.{ready_of, opened}
 use Rattle.file.specs.Answered.{row_of, place_of}

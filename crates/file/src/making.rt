@@ -8,7 +8,7 @@ ghost use Rattle.records.specs.State.{facts_of};
 ghost use Rattle.file.specs.Answered.{PlaceOfTwelve};
 ghost use Rattle.file.specs.Closings.{annual_record, calibration_record, closing_of, closing_refusal, first_rows, head_of, made_by, made_bytes, make_of, z_fits};
 
-use crate::{Refused, blocks, forming, taking};
+use crate::{Refused, forming, taking};
 use calibration::{Figures, Verdicts};
 use records::state::State;
 use records::{bytes, checks, closing};

@@ -1,9 +1,9 @@
 -- Laws of bytes that are read and written.
-use Rattle.std.specs.Prelude.{◌≡◌, refl, Bool, true, ◌&&◌, ℕ, zero, suc, ◌+◌, ◌<◌, ◌≤◌, eqb, length, get_or, take, drop, replicate}
+use Rattle.std.specs.Prelude.{◌≡◌, refl, Bool, true, ◌&&◌, ℕ, zero, suc, ◌+◌, ◌-◌, ◌<◌, ◌≤◌, eqb, length, get_or, take, drop, replicate}
 use Rattle.std.proofs.Common.{List, [], ◌∷◌, ◌++◌, append_assoc, sym, ap, ◌∙◌, arith, add-one, length-append, length-take, length-drop, drop_of_length-le, take_at, drop-drop, drop-cons, get_or-append-add, eqb-true}
 use Rattle.std.proofs.Math.Bool.{and_assoc}
 use Rattle.std.proofs.Math.Seq.{drop-append-add}
-use Rattle.std.proofs.lemmas.List.{append-nil, get_or-drop}
+use Rattle.std.proofs.lemmas.List.{append-nil, drop-replicate, get_or-drop}
 use Rattle.std.proofs.lemmas.Nat.{le_bytes_2, le_bytes_4}
 use Rattle.std.proofs.lemmas.Bool.{and_parts}
 use Rattle.records.specs.Bytes.{AllBytes, le16, le32, all_zero, written, bytes16, bytes32}
@@ -39,6 +39,10 @@ written_whole bytes new h =
     let past : length bytes ≤ 0 + length new = omega arith in
     let e : drop (0 + length new) bytes ≡ [] = drop_of_length-le bytes past in
     rw (e, append-nil)
+
+-- what is written into zeros, with those that are left past it
+pub zeros_written : (n : ℕ) (new : List ℕ) → written (replicate n 0) 0 new ≡ new ++ replicate (n - length new) 0
+zeros_written n new = let start : 0 + length new ≡ length new = omega arith in rw (start, drop-replicate {X = ℕ} (length new) n 0) refl
 
 -- ---- numbers
 
