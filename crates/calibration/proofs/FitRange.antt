@@ -3,7 +3,7 @@ use Rattle.std.specs.Prelude.{◌≡◌, refl, Bool, true, false, not, List, ℕ
 use Rattle.std.proofs.Common.{arith}
 use Rattle.std.proofs.Math.Facts.{T_not-not}
 use Rattle.std.specs.Int.Signed.{le_z}
-use Rattle.charts.specs.Tests.{if_all}
+use Rattle.charts.specs.Tests.{if_all, is_true}
 use Rattle.calibration.specs.Pairs.{between_answers, AllRanged, RequirementsRanged, ZRanged}
 use Rattle.calibration.specs.Calibration.{LineRanged, count_fits, divisor_of, fit_from, fit_of, flat_of, intercept_of, line_fits, refused_fit, slope_of, slope_ranged_of, some_beyond, sums_of}
 use Rattle.calibration.proofs.SumLaws.{sums_ranged}
@@ -20,10 +20,6 @@ Ranges c = c.refusal ≡ 0 → LineRanged c.line
 
 refused_ranges : (n : ℕ) → 0 < n → Ranges (refused_fit n)
 refused_ranges n l e = absurd (omega arith)
-
-pub T_true : (b : Bool) → T b → b ≡ true
-T_true true t = refl
-T_true false t = absurd t
 
 counted : (ps : List Pair) → 0 < length ps → 0 < (sums_of ps).n
 unfolding sums_of
@@ -50,4 +46,4 @@ pub fitted_ranged : (edition : ℕ) (q : Requirements) (z : ℤ) (ps : List Pair
 unfolding fit_of
 fitted_ranged edition q z ps Q Z all few =
     if_all Ranges (not (count_fits (length ps))) _ _ (λ t. refused_ranges 20 (omega arith))
-    (λ t. from_ranges edition q z ps Z all few (count_above (length ps) (T_true (count_fits (length ps)) (T_not-not (count_fits (length ps)) t))))
+    (λ t. from_ranges edition q z ps Z all few (count_above (length ps) (is_true (count_fits (length ps)) (T_not-not (count_fits (length ps)) t))))

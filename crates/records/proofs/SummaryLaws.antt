@@ -9,7 +9,7 @@ use Rattle.std.proofs.lemmas.Bool.{false≢true, not-false}
 use Rattle.std.proofs.Math.Seq.{set-append_seam}
 use Rattle.charts.specs.Tests.{if_yes, if_no, and_both}
 use Rattle.charts.specs.Charts.{blank, reset_of, applied_of}
-use Rattle.charts.specs.ChartLaws.{Reading, differences, after_readings}
+use Rattle.charts.specs.Readings.{Reading, differences, after_readings}
 use Rattle.charts.proofs.ChartLaws.{charted}
 use Rattle.records.specs.Lists.{those_since}
 use Rattle.records.specs.Record.{Record, kind, mark, minute, setting_of, difference_of, waiting_of}
