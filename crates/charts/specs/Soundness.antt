@@ -68,7 +68,8 @@ sound_answers c =
     answers_as
     (answers_and (answers_le c.readings 100000)
     (answers_and
-    (answers_and (answers_and (ranged_answers c.last) (within_answers most_rising c.readings c.rising)) (within_answers most_falling c.readings c.falling))
+    (answers_and (answers_and (ranged_answers c.last) (within_answers most_rising c.readings c.rising))
+    (within_answers most_falling c.readings c.falling))
     (within_answers most_precision c.readings c.precision)))
     (λ p. record { readings = p.0; last = p.1.0.0.0; rising = p.1.0.0.1; falling = p.1.0.1; precision = p.1.1 })
     (λ r. (r.readings, (((r.last, r.rising), r.falling), r.precision)))
