@@ -1,5 +1,7 @@
--- Paper 01, 'Annual test (8.4, 8.5)', and paper 02, C-12. The definitions are those of the calibration, with the function in force.
-use Rattle.std.specs.Prelude.{Bool, not, ◌&&◌, ◌||◌, List, ℕ, ◌-◌, ◌*◌, leb, eqb, ℤ, pos, nat_abs, ◌-ℤ◌, ◌*ℤ◌, length, if◌then◌else◌}
+-- Paper 01, 'Annual test (8.4, 8.5)', and paper 02, C-12. The definitions are those of the calibration, with the
+-- function in force.
+use Rattle.std.specs.Prelude.{Bool, not, ◌&&◌, ◌||◌, List, ℕ, ◌-◌, ◌*◌, leb, eqb, ℤ, pos, nat_abs, ◌-ℤ◌, ◌*ℤ◌, length}
+use Rattle.std.specs.Prelude.{if◌then◌else◌}
 use Rattle.std.specs.Int.Signed.{le_z}
 use Rattle.calibration.specs.Calibration.{some_beyond, deviations_of, deviations_total, q_of}
 use Rattle.calibration.specs.declared.pairs.Pair.{Pair}
@@ -29,7 +31,8 @@ t_of n =
 
 -- variability: 4·10⁸·Q ≤ 9N(N-1)σ²k²
 unfoldable pub annual_varied_of : ℕ → ℤ → ℤ → Bool
-annual_varied_of n q σ = le_z (pos 400000000 *ℤ q) (pos (9 * (n * (n - 1))) *ℤ (σ *ℤ σ) *ℤ pos (annual_k_of n * annual_k_of n))
+annual_varied_of n q σ =
+    le_z (pos 400000000 *ℤ q) (pos (9 * (n * (n - 1))) *ℤ (σ *ℤ σ) *ℤ pos (annual_k_of n * annual_k_of n))
 
 -- function: L is what |ΣD| exceeds Nσ by; none, or one that T covers
 unfoldable pub function_holds_of : ℕ → ℤ → ℤ → ℤ → Bool

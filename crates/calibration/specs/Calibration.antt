@@ -1,6 +1,7 @@
--- Paper 01, 'Calibration (6.4, 6.5)', from the sums over the pairs to the verdict, and paper 02, C-12. Every formula is over ℤ, as printed; whatever rounds
--- has the edition as its first argument.
-use Rattle.std.specs.Prelude.{Bool, true, false, not, ◌&&◌, ◌||◌, List, [], ◌∷◌, map, ℕ, ◌+◌, ◌-◌, ◌*◌, leb, eqb, ℤ, pos, neg_ℤ, ◌+ℤ◌, ◌-ℤ◌, ◌*ℤ◌, length, if◌then◌else◌}
+-- Paper 01, 'Calibration (6.4, 6.5)', from the sums over the pairs to the verdict, and paper 02, C-12. Every formula
+-- is over ℤ, as printed; whatever rounds has the edition as its first argument.
+use Rattle.std.specs.Prelude.{Bool, true, false, not, ◌&&◌, ◌||◌, List, [], ◌∷◌, map, ℕ, ◌+◌, ◌-◌, ◌*◌, leb, eqb, ℤ}
+use Rattle.std.specs.Prelude.{pos, neg_ℤ, ◌+ℤ◌, ◌-ℤ◌, ◌*ℤ◌, length, if◌then◌else◌}
 use Rattle.std.specs.Int.Signed.{le_z, lt_z}
 use Rattle.charts.specs.Rounding.{near_of}
 use Rattle.calibration.specs.Pairs.{Between, between_of}

@@ -9,8 +9,8 @@ use Rattle.calibration.specs.declared.conditions.Conditions.{Conditions}
 abbrev pub times_of : ℕ → ℤ → ℤ → ℤ → ℤ
 times_of edition v n d = near_of edition (v *ℤ n) d
 
--- A concentration brought to standard conditions: the factors for temperature, pressure, water and oxygen in turn, rounded after each.
--- `reference` is the setting's reference oxygen.
+-- A concentration brought to standard conditions: the factors for temperature, pressure, water and oxygen in turn,
+-- rounded after each. `reference` is the setting's reference oxygen.
 unfoldable pub standard_of : ℕ → ℤ → Conditions → Actual → Standard
 standard_of edition reference k v =
     let t : ℤ = times_of edition v.0 (pos 27315 +ℤ k.temperature) (pos 27315) in

@@ -1,5 +1,6 @@
--- What the code works with beside the definitions of paper 01, and the range in which its arithmetic fits: its contracts cite these. That it comes to
--- the same as the formulas is proved (proofs/SlopeLaws, DividedLaws, ResidualLaws).
+-- What the code works with beside the definitions of paper 01, and the range in which its arithmetic fits: its
+-- contracts cite these. That it comes to the same as the formulas is proved (proofs/SlopeLaws, DividedLaws,
+-- ResidualLaws).
 use Rattle.std.specs.Prelude.{ℕ, ◌*◌, ◌≤◌, ℤ, pos, Option, Some, None, ◌+ℤ◌, ◌-ℤ◌, ◌*ℤ◌, if◌then◌else◌}
 use Rattle.charts.specs.Rounding.{near_of}
 use Rattle.calibration.specs.Pairs.{Between}
@@ -19,8 +20,8 @@ pub record SumsRanged (u : Sums) : Type 0 where
 -- B where it is in its range
 unfoldable pub slope_code : ℕ → ℤ → ℤ → Option ℤ
 slope_code edition rise divisor =
-    if slope_ranged_of (near_of edition (pos 100000 *ℤ rise) divisor) then Some (near_of edition (pos 100000 *ℤ rise) divisor)
-    else None
+    let b : ℤ = near_of edition (pos 100000 *ℤ rise) divisor in
+    if slope_ranged_of b then Some b else None
 
 -- one pair more in the residuals
 unfoldable pub with_residual_of : Residuals → Standard → Standard → Residuals

@@ -1,6 +1,6 @@
--- Paper 01, 'Where input is stopped', the paragraph below its table, and paper 02, C-12: the figures of a calibration from a lent list of pairs, which
--- comes with the edition to round by, E, σ, the reference oxygen and Z. 3 is tried first, then 13 whatever the list's length; then 20, 22, 23 and 24, as
--- the fit of a closing tries them.
+-- Paper 01, 'Where input is stopped', the paragraph below its table, and paper 02, C-12: the figures of a calibration
+-- from a lent list of pairs, which comes with the edition to round by, E, σ, the reference oxygen and Z. 3 is tried
+-- first, then 13 whatever the list's length; then 20, 22, 23 and 24, as the fit of a closing tries them.
 use Rattle.std.specs.Prelude.{Bool, not, ◌&&◌, List, ℤ, if◌then◌else◌}
 use Rattle.std.specs.List.{list_all}
 use Rattle.charts.specs.Rounding.{edition_known}

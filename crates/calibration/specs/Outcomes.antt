@@ -1,5 +1,6 @@
--- The outcomes of a fit and of an annual test, as the definitions have them: a refusal by its number (0 for none) beside the figures or the verdicts, which are
--- 0 and false where it refuses. And the view that takes the code's answer to them: no two answers have one outcome (proofs/OutcomeLaws), so an outcome says all of an answer.
+-- The outcomes of a fit and of an annual test, as the definitions have them: a refusal by its number (0 for none)
+-- beside the figures or the verdicts, which are 0 and false where it refuses. And the view that takes the code's
+-- answer to them: no two answers have one outcome (proofs/OutcomeLaws), so an outcome says all of an answer.
 use Rattle.std.specs.Prelude.{Bool, false, ℕ, pos, Result, Ok, Err}
 use Rattle.refusals.specs.declared.Refusal.{Refusal}
 use Rattle.refusals.specs.Rows.{number_of}

@@ -1,4 +1,5 @@
--- Paper 01, 'Records', kinds 1, 4, 5 and 7: the ranges of the figures that a calibration works with, as questions and, where the code asks them, as tests.
+-- Paper 01, 'Records', kinds 1, 4, 5 and 7: the ranges of the figures that a calibration works with, as questions and,
+-- where the code asks them, as tests.
 use Rattle.std.specs.Prelude.{Bool, ◌&&◌, List, [], ◌∷◌, ℤ, pos, neg_ℤ, ◌≤ℤ◌}
 use Rattle.std.specs.Int.Signed.{le_z}
 use Rattle.charts.specs.Tests.{Answers, answers_le_z, answers_and, answers_as}
@@ -15,7 +16,10 @@ abbrev pub between_of : ℤ → ℤ → ℤ → Bool
 between_of a b z = le_z a z && le_z z b
 
 pub between_answers : (a b z : ℤ) → Answers (between_of a b z) (Between a b z)
-between_answers a b z = answers_as (answers_and (answers_le_z a z) (answers_le_z z b)) (λ p. record { low = p.0; high = p.1 }) (λ r. (r.low, r.high))
+between_answers a b z =
+    answers_as (answers_and (answers_le_z a z) (answers_le_z z b))
+    (λ p. record { low = p.0; high = p.1 })
+    (λ r. (r.low, r.high))
 
 -- t, p, h and o
 pub record ConditionsRanged (k : Conditions) : Type 0 where
@@ -37,7 +41,8 @@ conditions_answers k =
     answers_as
     (answers_and
     (answers_and
-    (answers_and (between_answers (neg_ℤ (pos 5000)) (pos 50000) k.temperature) (between_answers (neg_ℤ (pos 2000)) (pos 2000) k.pressure))
+    (answers_and (between_answers (neg_ℤ (pos 5000)) (pos 50000) k.temperature)
+    (between_answers (neg_ℤ (pos 2000)) (pos 2000) k.pressure))
     (between_answers (pos 0) (pos 5000) k.water))
     (between_answers (pos 0) (pos 1800) k.oxygen))
     (λ p. record { temperature = p.0.0.0; pressure = p.0.0.1; water = p.0.1; oxygen = p.1 })

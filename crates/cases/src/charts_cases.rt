@@ -60,7 +60,7 @@ fn fresh() -> Chart {
 
 // A reading, where the chart and the difference are in the range that `apply` asks for; else the chart as it is.
 fn applied(edition: u8, c: Chart, s: u16, d: i32) -> Chart {
-    if !c.sound() || 100000 <= c.readings || !charts::ranged(d) {
+    if !c.sound() || 100000 <= c.readings || !charts::difference_ranged(d) {
         return c;
     }
     c.apply(edition, s, d)

@@ -1,6 +1,7 @@
--- Paper 01, 'Charts (7.2-7.6)', and paper 02, C-12: a chart of three sums, of differences in hundredths of mg/m³. s is what the setting has for
--- the chart; only the adjustments are rounded, by the edition of the reading's block.
-use Rattle.std.specs.Prelude.{Bool, true, false, ◌&&◌, ℕ, ◌+◌, ◌*◌, ltb, ℤ, pos, neg_ℤ, nat_abs, ◌-ℤ◌, ◌*ℤ◌, if◌then◌else◌}
+-- Paper 01, 'Charts (7.2-7.6)', and paper 02, C-12: a chart of three sums, of differences in hundredths of mg/m³. s is
+-- what the setting has for the chart; only the adjustments are rounded, by the edition of the reading's block.
+use Rattle.std.specs.Prelude.{Bool, true, false, ◌&&◌, ℕ, ◌+◌, ◌*◌, ltb, ℤ, pos, neg_ℤ, nat_abs, ◌-ℤ◌, ◌*ℤ◌}
+use Rattle.std.specs.Prelude.{if◌then◌else◌}
 use Rattle.charts.specs.Rounding.{near_of}
 use Rattle.charts.specs.Sums.{empty, added}
 use Rattle.charts.specs.declared.Sum.{Sum}
@@ -41,22 +42,41 @@ alarms_of c s = record {
   precision = c.started && over (precision_limit s) c.precision;
 }
 
--- By how much to adjust at a drift alarm, from the sum and its count n as the reading leaves them; 0 where they show no alarm.
--- (A sum over the limit has a count above 0, and the quotient is not negative, so that its magnitude is itself.)
+-- By how much to adjust at a drift alarm, from the sum and its count n as the reading leaves them; 0 where they show
+-- no alarm. (A sum over the limit has a count above 0, and the quotient is not negative, so that its magnitude is
+-- itself.)
 unfoldable pub adjustment_of : ℕ → ℕ → Sum → ℕ
 adjustment_of edition s u =
-    if over (drift_limit s) u then nat_abs (near_of edition (pos (7 * (501 * s * u.count + u.value))) (pos (10000 * u.count)))
-    else 0
+    let asked : ℤ = near_of edition (pos (7 * (501 * s * u.count + u.value))) (pos (10000 * u.count)) in
+    if over (drift_limit s) u then nat_abs asked else 0
 
 -- ---- the chart
 
 -- A chart that was never reset: all its figures are 0.
 unfoldable pub blank : Chart
-blank = record { started = false; readings = 0; last = pos 0; rising = empty; falling = empty; precision = empty; downward = 0; upward = 0 }
+blank = record {
+  started = false;
+  readings = 0;
+  last = pos 0;
+  rising = empty;
+  falling = empty;
+  precision = empty;
+  downward = 0;
+  upward = 0;
+}
 
 -- After a reset the chart is started, and nothing of its figures is left.
 unfoldable pub reset_of : Chart → Chart
-reset_of c = record { started = true; readings = 0; last = pos 0; rising = empty; falling = empty; precision = empty; downward = 0; upward = 0 }
+reset_of c = record {
+  started = true;
+  readings = 0;
+  last = pos 0;
+  rising = empty;
+  falling = empty;
+  precision = empty;
+  downward = 0;
+  upward = 0;
+}
 
 -- A reading with difference d. `downward` is to be taken off (P), `upward` to be added (M).
 unfoldable pub applied_of : Chart → ℕ → ℕ → ℤ → Chart

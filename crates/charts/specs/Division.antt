@@ -1,5 +1,5 @@
--- Paper 02, C-14: the floor of a quotient and what is left over, by which the code rounds either sign in one way. `near_of` says what rounding is, and
--- does not rest on these.
+-- Paper 02, C-14: the floor of a quotient and what is left over, by which the code rounds either sign in one way.
+-- `near_of` says what rounding is, and does not rest on these.
 use Rattle.std.specs.Prelude.{◌≡◌, ℤ, pos, nat_abs, ◌+ℤ◌, ◌-ℤ◌, ◌*ℤ◌, ◌≤ℤ◌, ◌<ℤ◌}
 use Rattle.std.specs.Int.Signed.{shr_z}
 use Rattle.charts.specs.declared.Division.{Division}

@@ -1,8 +1,11 @@
--- Integers for `omega`, which reads natural numbers only: z is `up z - dn z`, its part above 0 less its part below 0, one of them 0.
--- A fact of ℤ becomes one of these parts (`eq_ud`, `le_ud`, `lt_ud`), and a goal of ℤ follows from one (`ud_eq`, `ud_le`, `ud_lt`): the set `ints` has them all.
--- Beside it `omega` wants a fact for each operation in sight, at its operands: `sum a b`, `diff a b`, `prod a b`.
-use Rattle.std.specs.Prelude.{◌≡◌, refl, Bool, true, false, not, cond, ℕ, zero, suc, ◌+◌, ◌-◌, ◌*◌, ◌^◌, ◌≤◌, ◌<◌, min, T, ltb, ℤ, pos, negsuc, neg_ℤ, nat_abs, ◌+ℤ◌, ◌-ℤ◌, ◌*ℤ◌, ◌≤ℤ◌, ◌<ℤ◌}
-use Rattle.std.proofs.Common.{sym, ap, ◌∙◌, subst, arith, inl, inr, leb-false, mul-le-mul_left, ltb→lt, nltb→le, lt→ltb, le→leb, leb→le}
+-- Integers for `omega`, which reads natural numbers only: z is `up z - dn z`, its part above 0 less its part below 0,
+-- one of them 0. A fact of ℤ becomes one of these parts (`eq_ud`, `le_ud`, `lt_ud`), and a goal of ℤ follows from one
+-- (`ud_eq`, `ud_le`, `ud_lt`): the set `ints` has them all. Beside it `omega` wants a fact for each operation in
+-- sight, at its operands: `sum a b`, `diff a b`, `prod a b`.
+use Rattle.std.specs.Prelude.{◌≡◌, refl, Bool, true, false, not, cond, ℕ, zero, suc, ◌+◌, ◌-◌, ◌*◌, ◌^◌, ◌≤◌, ◌<◌, min}
+use Rattle.std.specs.Prelude.{T, ltb, ℤ, pos, negsuc, neg_ℤ, nat_abs, ◌+ℤ◌, ◌-ℤ◌, ◌*ℤ◌, ◌≤ℤ◌, ◌<ℤ◌}
+use Rattle.std.proofs.Common.{sym, ap, ◌∙◌, subst, arith, inl, inr, leb-false, mul-le-mul_left, ltb→lt, nltb→le}
+use Rattle.std.proofs.Common.{lt→ltb, le→leb, leb→le}
 use Rattle.std.proofs.Math.IntN.{sub_ℕ}
 use Rattle.std.specs.Int.Signed.{mag, lt_z, le_z, <ℤ_irrefl, <ℤ-≤ℤ_trans, lt_z_yes, le_z_yes}
 use Rattle.std.specs.Int.{Width}
@@ -111,13 +114,22 @@ ud_lt {a = negsuc a} {b = negsuc b} h = record { lt = lt→ltb b a (omega arith)
 
 -- ---- ring laws that the library lacks
 pub *ℤ-assoc : (a b c : ℤ) → (a *ℤ b) *ℤ c ≡ a *ℤ (b *ℤ c)
-*ℤ-assoc a b c = ud_eq (rw (up_prod (a *ℤ b) c, dn_prod (a *ℤ b) c, up_prod a (b *ℤ c), dn_prod a (b *ℤ c), up_prod a b, dn_prod a b, up_prod b c, dn_prod b c) (omega arith))
+*ℤ-assoc a b c =
+    ud_eq
+    (rw (up_prod (a *ℤ b) c, dn_prod (a *ℤ b) c, up_prod a (b *ℤ c), dn_prod a (b *ℤ c))
+    (rw (up_prod a b, dn_prod a b, up_prod b c, dn_prod b c) (omega arith)))
 
 pub *ℤ-distrib : (a b c : ℤ) → a *ℤ (b +ℤ c) ≡ a *ℤ b +ℤ a *ℤ c
-*ℤ-distrib a b c = ud_eq (omega (arith, prod a (b +ℤ c), prod a b, prod a c, sum (a *ℤ b) (a *ℤ c), ap (λ (n : ℕ). up a * n) (sum b c), ap (λ (n : ℕ). dn a * n) (sum b c)))
+*ℤ-distrib a b c =
+    let e = ap (λ (n : ℕ). up a * n) (sum b c) in
+    let f = ap (λ (n : ℕ). dn a * n) (sum b c) in
+    ud_eq (omega (arith, prod a (b +ℤ c), prod a b, prod a c, sum (a *ℤ b) (a *ℤ c)))
 
 pub +ℤ-distrib-* : (a b c : ℤ) → (a +ℤ b) *ℤ c ≡ a *ℤ c +ℤ b *ℤ c
-+ℤ-distrib-* a b c = ud_eq (omega (arith, prod (a +ℤ b) c, prod a c, prod b c, sum (a *ℤ c) (b *ℤ c), ap (λ (n : ℕ). up c * n) (sum a b), ap (λ (n : ℕ). dn c * n) (sum a b)))
++ℤ-distrib-* a b c =
+    let e = ap (λ (n : ℕ). up c * n) (sum a b) in
+    let f = ap (λ (n : ℕ). dn c * n) (sum a b) in
+    ud_eq (omega (arith, prod (a +ℤ b) c, prod a c, prod b c, sum (a *ℤ c) (b *ℤ c)))
 
 -- ---- order laws
 pub ≤ℤ-antisymm : {a b : ℤ} → a ≤ℤ b → b ≤ℤ a → a ≡ b

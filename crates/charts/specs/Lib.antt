@@ -9,6 +9,6 @@ pub mod Charts
 pub mod Runs
 pub mod RunLaws
 pub mod Readings
-pub mod Soundness
-pub mod SoundnessLaws
+pub mod ChartSoundness
+pub mod ChartSoundnessLaws
 pub mod CodeLaws

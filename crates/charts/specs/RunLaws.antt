@@ -1,5 +1,6 @@
 -- The run theorem: what a sum and its count say of the runs in its terms. Over any list of terms, newest first.
-use Rattle.std.specs.Prelude.{◌≡◌, refl, not, List, [], ◌∷◌, ℕ, zero, suc, ◌+◌, ◌<◌, ◌≤◌, T, ltb, ℤ, pos, nat_abs, ◌+ℤ◌, take, length, ◌<ℤ◌, ◌≤ℤ◌}
+use Rattle.std.specs.Prelude.{◌≡◌, refl, not, List, [], ◌∷◌, ℕ, zero, suc, ◌+◌, ◌<◌, ◌≤◌, T, ltb, ℤ, pos, nat_abs}
+use Rattle.std.specs.Prelude.{◌+ℤ◌, take, length, ◌<ℤ◌, ◌≤ℤ◌}
 use Rattle.std.proofs.Common.{sym, ap, ◌∙◌, add-one, arith}
 use Rattle.std.specs.Int.Signed.{lt_z, lt_z_yes, lt_z_no}
 use Rattle.charts.specs.Integers.{ints, up, dn, one_zero, abs_ud, eq_ud, ud_eq, lt_ud}
@@ -70,7 +71,8 @@ shows [] = shows_empty
 shows (t ∷ ts) = shows_added (summed ts) t ts (shows ts)
 
 -- from it: the sum is over a limit exactly if some run is
-pub over_answers : (limit : ℕ) (u : Sum) (ts : List ℤ) → Shows u ts → Answers (ltb limit u.value) (RunOver (pos limit) ts)
+pub over_answers : (limit : ℕ) (u : Sum) (ts : List ℤ) → Shows u ts
+    → Answers (ltb limit u.value) (RunOver (pos limit) ts)
 over_answers limit u ts S = answers_as (answers_lt_z (pos limit) (pos u.value)) there back
   where
     there : pos limit <ℤ pos u.value → RunOver (pos limit) ts

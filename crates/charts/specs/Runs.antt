@@ -1,6 +1,7 @@
--- The mission's statement 3, for one chart: which alarms stand, said of the readings since the reset.
--- The mission's numbers stand here once more: no running sum, and none of the terms and limits of the chart's own definitions.
-use Rattle.std.specs.Prelude.{List, [], ◌∷◌, map, ℕ, ◌*◌, ◌<◌, ◌≤◌, ℤ, pos, neg_ℤ, ◌+ℤ◌, ◌-ℤ◌, ◌*ℤ◌, take, length, ◌<ℤ◌}
+-- The mission's statement 3, for one chart: which alarms stand, said of the readings since the reset. The mission's
+-- numbers stand here once more: no running sum, and none of the terms and limits of the chart's own definitions.
+use Rattle.std.specs.Prelude.{List, [], ◌∷◌, map, ℕ, ◌*◌, ◌<◌, ◌≤◌, ℤ, pos, neg_ℤ, ◌+ℤ◌, ◌-ℤ◌, ◌*ℤ◌, take, length}
+use Rattle.std.specs.Prelude.{◌<ℤ◌}
 
 -- ---- runs, in a list of terms that has the newest first
 

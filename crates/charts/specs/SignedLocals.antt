@@ -1,7 +1,9 @@
--- A signed local holds bits, and each need of a signed operation speaks of what the machine reads back from them, `to_z w b`.
--- `Loc w` is such a local: its bits, the number that they stand for, and that it fits. The code's steps are written again on these, `add A B f` for `a + b`:
--- the bits are those of the machine's result by computation, and the number is the sum. `add_need A B f` is what the operation asks.
-use Rattle.std.specs.Prelude.{◌≡◌, true, false, ℕ, zero, suc, ◌/◌, ◌^◌, ◌≤◌, ◌<◌, T, ℤ, pos, negsuc, neg_ℤ, nat_abs, ◌+ℤ◌, ◌-ℤ◌, ◌*ℤ◌, ◌≤ℤ◌, ◌<ℤ◌}
+-- A signed local holds bits, and each need of a signed operation speaks of what the machine reads back from them,
+-- `to_z w b`. `Loc w` is such a local: its bits, the number that they stand for, and that it fits. The code's steps
+-- are written again on these, `add A B f` for `a + b`: the bits are those of the machine's result by computation, and
+-- the number is the sum. `add_need A B f` is what the operation asks.
+use Rattle.std.specs.Prelude.{◌≡◌, true, false, ℕ, zero, suc, ◌/◌, ◌^◌, ◌≤◌, ◌<◌, T, ℤ, pos, negsuc, neg_ℤ, nat_abs}
+use Rattle.std.specs.Prelude.{◌+ℤ◌, ◌-ℤ◌, ◌*ℤ◌, ◌≤ℤ◌, ◌<ℤ◌}
 use Rattle.std.proofs.Common.{sym, ap, ◌∙◌, subst, arith, div-le_self, lt→ltb, leb-false, to_z-of_z}
 use Rattle.std.proofs.Math.IntN.{+ℤ_idl}
 use Rattle.std.specs.Int.Signed.{mag, lt_z, le_z, quot_z, rem_z, mag_rem, le_z_yes}
@@ -32,9 +34,15 @@ pub on : {w : Width} (A B : Loc w) (o : ℤ → ℤ → ℤ) → o (to_z w A.bit
 on {w} A B o = ap (λ (v : ℤ). o v (to_z w B.bits)) A.reads ∙ ap (o A.num) B.reads
 
 abbrev pub op : {w : Width} (o : ℤ → ℤ → ℤ) (A B : Loc w) → SFits w (o A.num B.num) → Loc w
-op {w} o A B f = record { bits = of_z w (o (to_z w A.bits) (to_z w B.bits)); num = o A.num B.num; reads = result (on A B o) f; fit = f }
+op {w} o A B f = record {
+  bits = of_z w (o (to_z w A.bits) (to_z w B.bits));
+  num = o A.num B.num;
+  reads = result (on A B o) f;
+  fit = f;
+}
 
-pub op_need : {w : Width} (o : ℤ → ℤ → ℤ) (A B : Loc w) → SFits w (o A.num B.num) → SFits w (o (to_z w A.bits) (to_z w B.bits))
+pub op_need : {w : Width} (o : ℤ → ℤ → ℤ) (A B : Loc w) → SFits w (o A.num B.num)
+    → SFits w (o (to_z w A.bits) (to_z w B.bits))
 op_need {w} o A B f = subst (SFits w) (sym (on A B o)) f
 
 module _ {w : Width} (A B : Loc w) where

@@ -5,7 +5,7 @@ ghost use Rattle.charts.specs.Rounding.{edition_known, near_of, rounds_up};
 ghost use Rattle.charts.specs.Division.{division_of};
 ghost use Rattle.charts.specs.Sums.{added};
 ghost use Rattle.charts.specs.Charts.{adjustment_of, alarms_of, applied_of, blank, reset_of};
-ghost use Rattle.charts.specs.Soundness.{Ranged, Sound, ranged_of, sound_of, within_of};
+ghost use Rattle.charts.specs.ChartSoundness.{DifferenceRanged, ChartSound, difference_ranged_of, chart_sound_of, within_of};
 
 // The floor of n / d, and what is left over: the rest, in 0..d-1.
 #[derive(Clone, Copy)]
@@ -135,7 +135,7 @@ fn adjustment(edition: u8, u: Sum, s: u16) -> u64
 
 // A difference raised by 800,000, so that it is not negative.
 fn raised(d: i32) -> u64
-    requires { Ranged d }
+    requires { DifferenceRanged d }
     ensures { (pos result ≡ d +ℤ pos 800000) × (result ≤ 1200000) }
 {
     (i64::from(d) + 800000).cast_unsigned()
@@ -164,7 +164,7 @@ impl Chart {
     // A reading with difference d, at the standard deviation s, its adjustments rounded by the edition. Each sum is kept unsigned, as what is added
     // less what is taken.
     pub fn apply(self, edition: u8, s: u16, d: i32) -> Chart
-        requires { Sound self × (self.readings < 100000) × Ranged d }
+        requires { ChartSound self × (self.readings < 100000) × DifferenceRanged d }
         ensures { result ≡ applied_of self edition s d }
     {
         let x = raised(d);
@@ -203,11 +203,11 @@ impl Chart {
 
     // Whether a chart is in the range in which its arithmetic fits.
     pub fn sound(self) -> bool
-        ensures { result ≡ sound_of self }
+        ensures { result ≡ chart_sound_of self }
     {
         let n = self.readings;
         n <= 100000
-            && (ranged(self.last)
+            && (difference_ranged(self.last)
                 & within(self.rising, 400000000, n)
                 & within(self.falling, 800000000, n)
                 & within(self.precision, 14400000000000, n))
@@ -215,15 +215,15 @@ impl Chart {
 }
 
 // Whether a number is in the range of a difference.
-#[tactic(auto, unfolding(crate::specs::Soundness::ranged_of))]
-pub fn ranged(d: i32) -> bool
-    ensures { result ≡ ranged_of d }
+#[tactic(auto, unfolding(crate::specs::ChartSoundness::difference_ranged_of))]
+pub fn difference_ranged(d: i32) -> bool
+    ensures { result ≡ difference_ranged_of d }
 {
     (-800000..=400000).contains(&d)
 }
 
 // Whether a sum has at most as many terms as there are readings, and a value of at most `most` for each.
-#[tactic(auto, using(std::proofs::lemmas::Bool::Decides::nat_tests), unfolding(crate::specs::Soundness::within_of))]
+#[tactic(auto, using(std::proofs::lemmas::Bool::Decides::nat_tests), unfolding(crate::specs::ChartSoundness::within_of))]
 fn within(u: Sum, most: u64, readings: u32) -> bool
     requires { (most ≤ 14400000000000) × (readings ≤ 100000) }
     ensures { result ≡ within_of most readings u }

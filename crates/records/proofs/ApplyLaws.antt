@@ -9,7 +9,7 @@ use Rattle.std.specs.Prelude.{if◌then◌else◌, None, Some}
 use Rattle.std.specs.Option.{option_or}
 use Rattle.std.proofs.Math.Facts.{eqb_yes, eqb_no}
 use Rattle.charts.specs.Charts.{applied_of}
-use Rattle.charts.specs.Soundness.{Sound}
+use Rattle.charts.specs.ChartSoundness.{ChartSound}
 use Rattle.charts.specs.declared.Chart.{Chart}
 use Rattle.charts.specs.Tests.{if_all}
 use Rattle.records.specs.Record.{Record, kind, mark, minute, difference_of, function_of, setting_of, waiting_of}
@@ -106,8 +106,8 @@ module _ (st : State) (r : Record) where
       (λ t. (zero_open (facts_of st) r e (eqb_yes t)).room)
       (λ t. (span_open (facts_of st) r e (eqb_no t)).room)
 
-  pub chart_sound : Sound st.zero → Sound st.span → Sound (chart_at st (mark r))
-  chart_sound z s = if_all Sound (eqb (mark r) 0) st.zero st.span (λ t. z) (λ t. s)
+  pub chart_sound : ChartSound st.zero → ChartSound st.span → ChartSound (chart_at st (mark r))
+  chart_sound z s = if_all ChartSound (eqb (mark r) 0) st.zero st.span (λ t. z) (λ t. s)
 
   pub reading_of_mark : with_chart st (mark r) (applied_of (chart_at st (mark r)) st.edition (deviation_at st.setting (mark r)) (difference_of r)) ≡ with_reading st r
   unfolding with_reading

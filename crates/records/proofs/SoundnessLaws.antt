@@ -5,8 +5,8 @@ use Rattle.std.proofs.Math.Dec.{T}
 use Rattle.std.proofs.Math.ListN.{length, take, length-take, length-map}
 use Rattle.std.proofs.Math.Facts.{and_yes, eqb_yes}
 use Rattle.charts.specs.Tests.{if_all}
-use Rattle.charts.specs.Soundness as C
-use Rattle.charts.specs.SoundnessLaws.{blank_sound, reset_sound, applied_sound as reading-sound}
+use Rattle.charts.specs.ChartSoundness.{ChartSound, DifferenceRanged}
+use Rattle.charts.specs.ChartSoundnessLaws.{blank_sound, reset_sound, reading_sound}
 use Rattle.charts.specs.declared.Chart.{Chart}
 use Rattle.calibration.specs.Pairs.{AllRanged}
 use Rattle.calibration.specs.Calibration.{LineRanged}
@@ -79,11 +79,11 @@ applied_places st r h =
 
 -- ---- the charts
 
-chart_sound : (edition : ℕ) (c : Point) (s : Setting) (r : Record) (k : Chart) → C.Sound k → (T (reads c r) → (k.readings < 100000) × C.Ranged (difference_of r)) → C.Sound (chart_after edition c s r k)
+chart_sound : (edition : ℕ) (c : Point) (s : Setting) (r : Record) (k : Chart) → ChartSound k → (T (reads c r) → (k.readings < 100000) × DifferenceRanged (difference_of r)) → ChartSound (chart_after edition c s r k)
 unfolding chart_after
 chart_sound edition c s r k S fits =
-    if_all C.Sound (resets c r) _ _ (λ t. reset_sound k)
-    (λ t. if_all C.Sound (reads c r) _ _ (λ u. reading-sound k edition (deviation_of c s) (difference_of r) S (fits u).0 (fits u).1) (λ u. S))
+    if_all ChartSound (resets c r) _ _ (λ t. reset_sound k)
+    (λ t. if_all ChartSound (reads c r) _ _ (λ u. reading_sound k edition (deviation_of c s) (difference_of r) S (fits u).0 (fits u).1) (λ u. S))
 
 -- ---- the setting
 
@@ -150,14 +150,14 @@ over_within false false n m h = omega arith
 -- ---- an accepted record
 
 module _ (st : State) (r : Record) (A : Accepted (facts_of st) r) where
-  zero_fits : T (reads at_zero r) → (st.zero.readings < 100000) × C.Ranged (difference_of r)
+  zero_fits : T (reads at_zero r) → (st.zero.readings < 100000) × DifferenceRanged (difference_of r)
   unfolding reads facts_of
   zero_fits t =
       let p = and_yes (eqb (kind r) 2) (eqb (mark r) 0) t in
       let k = eqb_yes p.0 in
       ((zero_open (facts_of st) r (reading_passed (facts_of st) r A k) (eqb_yes p.1)).room, (reading_fields r (reading_ranged_lem r A.ranged k)).difference)
 
-  span_fits : T (reads at_span r) → (st.span.readings < 100000) × C.Ranged (difference_of r)
+  span_fits : T (reads at_span r) → (st.span.readings < 100000) × DifferenceRanged (difference_of r)
   unfolding reads facts_of
   span_fits t =
       let p = and_yes (eqb (kind r) 2) (eqb (mark r) 1) t in

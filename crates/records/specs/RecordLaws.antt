@@ -4,7 +4,7 @@ use Rattle.std.proofs.Common.{arith}
 use Rattle.charts.specs.Tests.{Answers, answers_and, answers_le}
 pub use Rattle.charts.specs.Tests.{holds}
 use Rattle.charts.specs.Integers.{diff, le_ud, ud_le}
-use Rattle.charts.specs.Soundness.{Ranged}
+use Rattle.charts.specs.ChartSoundness.{DifferenceRanged}
 use Rattle.calibration.specs.Pairs.{Between, between_answers, ConditionsRanged, conditions_answers, PairRanged, pair_answers, RequirementsRanged, requirements_answers, ZRanged, z_ranged_of}
 use Rattle.calibration.proofs.RangeLaws.{between_abs, between_size}
 use Rattle.records.specs.Bytes.{byte_at, all_zero}
@@ -30,7 +30,7 @@ setting_fields r h =
 pub record ReadingFields (r : Record) : Type 0 where
   pub reading : nat_abs (field r 8) ≤ 400000
   pub reference : Between (pos 0) (pos 400000) (field r 12)
-  pub difference : Ranged (difference_of r)
+  pub difference : DifferenceRanged (difference_of r)
 
 pub reading_fields : (r : Record) → reading_ranged r ≡ true → ReadingFields r
 unfolding reading_ranged difference_of

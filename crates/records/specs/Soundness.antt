@@ -2,7 +2,7 @@
 -- and others may be. The edition may be any number, since none overflows anything (paper 02, C-12). `most` bounds what is counted record by record: a state that has taken n blocks is sound for 12·n.
 use Rattle.std.specs.Prelude.{Bool, true, false, ◌&&◌, List, [], ◌∷◌, ℕ, ◌≤◌, leb, take, None, Some}
 use Rattle.charts.specs.Tests.{Answers, answers_le, answers_and, answers_as}
-use Rattle.charts.specs.Soundness as C
+use Rattle.charts.specs.ChartSoundness.{ChartSound, chart_sound_of, chart_sound_answers}
 use Rattle.calibration.specs.Pairs.{PairRanged, pair_ranged_of, pair_answers, RequirementsRanged, requirements_ranged_of, requirements_answers}
 use Rattle.calibration.specs.Calibration.{LineRanged, line_ranged_of}
 use Rattle.calibration.proofs.RangeLaws.{line_answers}
@@ -89,8 +89,8 @@ begun_answers true s = setting_answers s
 pub record Sound (most : ℕ) (st : State) : Type 0 where
   pub minute : st.minute ≤ minute_limit
   pub setting : BegunSound st.begun st.setting
-  pub zero : C.Sound st.zero
-  pub span : C.Sound st.span
+  pub zero : ChartSound st.zero
+  pub span : ChartSound st.span
   pub pending : st.pending ≤ 30
   pub pairs : AllSound (take st.pending st.pairs)
   pub calibration : CalibrationSound st.calibration
@@ -107,7 +107,7 @@ Fitting st = Sound count_limit st
 
 unfoldable pub sound_of : ℕ → State → Bool
 sound_of most st =
-    (((leb st.minute minute_limit && begun_sound_of st.begun st.setting) && (C.sound_of st.zero && C.sound_of st.span))
+    (((leb st.minute minute_limit && begun_sound_of st.begun st.setting) && (chart_sound_of st.zero && chart_sound_of st.span))
     && ((leb st.pending 30 && all_sound_of (take st.pending st.pairs)) && calibration_sound_of st.calibration))
     && ((leb st.tally.total most && leb st.tally.outside most) && leb st.over most)
 
@@ -117,7 +117,7 @@ sound_answers most st =
     answers_as
     (answers_and
     (answers_and
-    (answers_and (answers_and (answers_le st.minute minute_limit) (begun_answers st.begun st.setting)) (answers_and (C.sound_answers st.zero) (C.sound_answers st.span)))
+    (answers_and (answers_and (answers_le st.minute minute_limit) (begun_answers st.begun st.setting)) (answers_and (chart_sound_answers st.zero) (chart_sound_answers st.span)))
     (answers_and (answers_and (answers_le st.pending 30) (all_answers (take st.pending st.pairs))) (calibration_answers st.calibration)))
     (answers_and (answers_and (answers_le st.tally.total most) (answers_le st.tally.outside most)) (answers_le st.over most)))
     (λ p. record {

@@ -1,7 +1,7 @@
 // What an accepted record makes of the state. State and record stay two, and so do state and minute: what reads a record asks no state, and a struct of both would
 // be taken apart there.
 ghost use Rattle.std.specs.Prelude.{◌≡◌, ◌≢◌, true, false, ◌+◌, ◌<◌, ◌≤◌, if◌then◌else◌};
-ghost use Rattle.charts.specs.Soundness.{Sound as Charts-as-Sound};
+ghost use Rattle.charts.specs.ChartSoundness.{ChartSound};
 ghost use Rattle.records.specs.Record.{kind, mark, minute, reading_ranged, value_ranged};
 ghost use Rattle.records.specs.Kinds.{exceeds as Kinds·exceeds, outside_by, raises_call as Kinds·raises_call};
 ghost use Rattle.records.specs.Soundness.{CalibrationSound, Fitting, SettingSound};
@@ -228,7 +228,7 @@ fn change_chart<F: FnOnce(Chart, u16) -> Chart>(st: &mut State, mark: u8, change
 
 #[inline(always)]
 fn take_reading(st: &mut State, r: &[u8; 40])
-    requires { (reading_ranged r.now ≡ true) × (reading_refusal (facts_of st.old) r.now ≡ 0) × Charts-as-Sound st.old.zero × Charts-as-Sound st.old.span }
+    requires { (reading_ranged r.now ≡ true) × (reading_refusal (facts_of st.old) r.now ≡ 0) × ChartSound st.old.zero × ChartSound st.old.span }
     ensures { st.new ≡ with_reading st.old r.now }
 {
     let edition = st.edition;

@@ -5,7 +5,7 @@ use mir.Syntax.{w32}
 use mir.Val.{to_z, of_z}
 use mir.Facts.{to_z-of_z}
 use borrow.Author.Rules.{rules}
-use Rattle.charts.specs.Soundness.{Sound, Ranged}
+use Rattle.charts.specs.ChartSoundness.{ChartSound, DifferenceRanged}
 use Rattle.records.specs.Record.{mark, difference_of}
 use Rattle.records.specs.RecordLaws.{reading_fields}
 use Rattle.records.specs.StateParts.{chart_at}
@@ -22,8 +22,8 @@ change_chart-requires c =
     let st = c.args.st.now in
     let r = c.args.r.now in
     let o : (chart_at st (mark r)).readings < 100000 = chart_room st r c.requires.1 in
-    let s : Sound (chart_at st (mark r)) = chart_sound st r c.requires.2 c.requires.3 in
-    let d : Ranged (to_z w32 (of_z w32 c.difference_of-d.result)) = rw (back (goal.at.change_chart-requires c).After-difference_of-d) (reading_fields r c.requires.0).difference in
+    let s : ChartSound (chart_at st (mark r)) = chart_sound st r c.requires.2 c.requires.3 in
+    let d : DifferenceRanged (to_z w32 (of_z w32 c.difference_of-d.result)) = rw (back (goal.at.change_chart-requires c).After-difference_of-d) (reading_fields r c.requires.0).difference in
     search rules
 
 pub returns : goal.returns

@@ -7,16 +7,16 @@ use Rattle.charts.specs.declared.Sum.{Sum}
 use Rattle.charts.specs.declared.Chart.{Chart}
 
 -- a difference of a reading in -400,000..400,000 and a reference in 0..400,000
-pub record Ranged (d : ℤ) : Type 0 where
+pub record DifferenceRanged (d : ℤ) : Type 0 where
   pub low : neg_ℤ (pos 800000) ≤ℤ d
   pub high : d ≤ℤ pos 400000
 
-unfoldable pub ranged_of : ℤ → Bool
-ranged_of d = le_z (neg_ℤ (pos 800000)) d && le_z d (pos 400000)
+unfoldable pub difference_ranged_of : ℤ → Bool
+difference_ranged_of d = le_z (neg_ℤ (pos 800000)) d && le_z d (pos 400000)
 
-pub ranged_answers : (d : ℤ) → Answers (ranged_of d) (Ranged d)
-unfolding ranged_of
-ranged_answers d =
+pub difference_ranged_answers : (d : ℤ) → Answers (difference_ranged_of d) (DifferenceRanged d)
+unfolding difference_ranged_of
+difference_ranged_answers d =
     answers_as (answers_and (answers_le_z (neg_ℤ (pos 800000)) d) (answers_le_z d (pos 400000)))
     (λ p. record { low = p.0; high = p.1 })
     (λ r. (r.low, r.high))
@@ -46,29 +46,30 @@ most_falling = 800000000
 abbrev pub most_precision : ℕ
 most_precision = 14400000000000
 
-pub record Sound (c : Chart) : Type 0 where
+pub record ChartSound (c : Chart) : Type 0 where
   pub readings : c.readings ≤ 100000
-  pub last : Ranged c.last
+  pub last : DifferenceRanged c.last
   pub rising : Within most_rising c.readings c.rising
   pub falling : Within most_falling c.readings c.falling
   pub precision : Within most_precision c.readings c.precision
 
 -- the same as a test
-unfoldable pub sound_of : Chart → Bool
-sound_of c =
+unfoldable pub chart_sound_of : Chart → Bool
+chart_sound_of c =
     leb c.readings 100000
-    && (((ranged_of c.last
+    && (((difference_ranged_of c.last
     && within_of most_rising c.readings c.rising)
     && within_of most_falling c.readings c.falling)
     && within_of most_precision c.readings c.precision)
 
-pub sound_answers : (c : Chart) → Answers (sound_of c) (Sound c)
-unfolding sound_of
-sound_answers c =
+pub chart_sound_answers : (c : Chart) → Answers (chart_sound_of c) (ChartSound c)
+unfolding chart_sound_of
+chart_sound_answers c =
     answers_as
     (answers_and (answers_le c.readings 100000)
     (answers_and
-    (answers_and (answers_and (ranged_answers c.last) (within_answers most_rising c.readings c.rising)) (within_answers most_falling c.readings c.falling))
+    (answers_and (answers_and (difference_ranged_answers c.last) (within_answers most_rising c.readings c.rising))
+    (within_answers most_falling c.readings c.falling))
     (within_answers most_precision c.readings c.precision)))
     (λ p. record { readings = p.0; last = p.1.0.0.0; rising = p.1.0.0.1; falling = p.1.0.1; precision = p.1.1 })
     (λ r. (r.readings, (((r.last, r.rising), r.falling), r.precision)))
