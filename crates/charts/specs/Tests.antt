@@ -1,11 +1,13 @@
--- Tests in definitions, and what they answer. A definition tests by a Bool; a statement asks a question; `Answers` joins the two.
+-- Tests in definitions, and what they answer. A definition tests by a Bool; a statement asks a question; `Answers` joins
+-- the two.
 use Rattle.std.specs.Prelude.{◌≡◌, refl, Bool, true, false, not, ◌&&◌, ℕ, ◌≤◌, ◌<◌, T, leb, ltb, ℤ, ◌≤ℤ◌, ◌<ℤ◌, if◌then◌else◌}
 use Rattle.std.proofs.Common.{sym, subst, ap, T_not, leb→le, le→leb, ltb→lt, lt→ltb}
 pub use Rattle.std.proofs.lemmas.Bool.{and_parts as and_both}
 use Rattle.std.proofs.Math.Dec.{not_T}
 use Rattle.std.specs.Int.Signed.{le_z, lt_z, le_z_yes, lt_z_yes}
 
--- a branch, from what is known of its test; `rw` by the test itself would rewrite inside a struct of which the test is a field
+-- a branch, from what is known of its test; `rw` by the test itself would rewrite inside a struct of which the test is a
+-- field
 pub if_yes : {A : Type 0} (b : Bool) (x y : A) → b ≡ true → (if b then x else y) ≡ x
 if_yes b x y h = ap (λ (u : Bool). if u then x else y) h
 
@@ -13,11 +15,13 @@ pub if_no : {A : Type 0} (b : Bool) (x y : A) → b ≡ false → (if b then x e
 if_no b x y h = ap (λ (u : Bool). if u then x else y) h
 
 -- what both branches have, the whole has; each branch may use its test
-pub if_all : {A : Type 0} (P : A → Type 0) (b : Bool) (x y : A) → (T b → P x) → (T (not b) → P y) → P (if b then x else y)
+pub if_all : {A : Type 0} (P : A → Type 0) (b : Bool) (x y : A) → (T b → P x) → (T (not b) → P y)
+    → P (if b then x else y)
 if_all P true x y f g = f tt
 if_all P false x y f g = g tt
 
--- Laws go by `T` or by an equation; these take one to the other. The kit has the rest, in std.proofs.lemmas.Bool: `not-false`, `and_parts`, `or_parts`, `eqb-true`.
+-- Laws go by `T` or by an equation; these take one to the other. The kit has the rest, in std.proofs.lemmas.Bool:
+-- `not-false`, `and_parts`, `or_parts`, `eqb-true`.
 pub is_true : (b : Bool) → T b → b ≡ true
 is_true true t = refl
 is_true false t = absurd t

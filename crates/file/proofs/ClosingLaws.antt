@@ -282,18 +282,18 @@ module _ (st : State) (edition : ℕ) (bytes : List ℕ) (kind minute : ℕ) (z 
           told_stops n g h = row_stops n (told_row ∙ sym g) h
 
           module _ (t : told_refusal st.edition edition ≡ 0) where
-            passed : make ≡ past_rows
+            past_call : make ≡ past_rows
             unfolding make_of
-            passed = unless_next (made_at 255) call_rows past_rows (told_row ∙ t)
+            past_call = unless_next (made_at 255) call_rows past_rows (told_row ∙ t)
 
             pub record_stops : ((ran_of (opened st edition) bytes).refusal ≡ 0 → ⊥) → make ≡ made (ran_of (opened st edition) bytes).refusal (ran_of (opened st edition) bytes).index
             unfolding ran_before ran_of
-            record_stops n = passed ∙ unless_stop (made_at before.index) before.refusal past_records n
+            record_stops n = past_call ∙ unless_stop (made_at before.index) before.refusal past_records n
 
             module _ (e : (ran_of (opened st edition) bytes).refusal ≡ 0) where
               past : make ≡ past_records
               unfolding ran_before ran_of
-              past = passed ∙ unless_next (made_at before.index) before.refusal past_records e
+              past = past_call ∙ unless_next (made_at before.index) before.refusal past_records e
 
               pub closing_stops : (n : ℕ) → n ≡ closing_refusal (facts_of (ran_of (opened st edition) bytes).state) kind minute z → (n ≡ 0 → ⊥) → make ≡ made n (length bytes / 40)
               unfolding ran_before ran_of
@@ -315,13 +315,13 @@ pub made_passes : (st : State) (edition : ℕ) (bytes : List ℕ) (kind minute :
     → MadePasses st edition bytes kind minute z
 unfolding make_of making_refusal ran_before ran_of
 made_passes st edition bytes kind minute z size e =
-    let call = passed 255 (making_refusal st edition bytes kind size) _ e in
+    let call = let_on 255 (making_refusal st edition bytes kind size) _ e in
     let a = row_passed 1 (not (eqb size 40)) tt call.0 in
     let b = row_passed 6 (not (records_fit 0 11 (length bytes))) tt a.1 in
     let c = row_passed 6 (not (eqb kind 5 || eqb kind 6)) tt b.1 in
     let d = row_passed 7 (not (ready_of st)) tt c.1 in
-    let ran = passed (ran_before st edition bytes).index (ran_before st edition bytes).refusal _ call.1 in
-    let own = passed (length bytes / 40) (closing_refusal (facts_of (ran_before st edition bytes).kept) kind minute z) (made 0 255) ran.1 in
+    let ran = let_on (ran_before st edition bytes).index (ran_before st edition bytes).refusal _ call.1 in
+    let own = let_on (length bytes / 40) (closing_refusal (facts_of (ran_before st edition bytes).kept) kind minute z) (made 0 255) ran.1 in
     record {
       fits = not-false (records_fit 0 11 (length bytes)) b.0;
       ready = not-false (ready_of st) d.0;
@@ -330,8 +330,8 @@ made_passes st edition bytes kind minute z size e =
       passes = own.0;
     }
   where
-    passed : (index n : ℕ) (rest : Made) → (unless_refused (made_at index) n rest).refusal ≡ 0 → (n ≡ 0) × (rest.refusal ≡ 0)
-    passed index n rest e = unless_passed (made_at index) (λ (m : Made). m.refusal) (λ n. refl) n rest e
+    let_on : (index n : ℕ) (rest : Made) → (unless_refused (made_at index) n rest).refusal ≡ 0 → (n ≡ 0) × (rest.refusal ≡ 0)
+    let_on index n rest e = unless_passed (made_at index) (λ (m : Made). m.refusal) (λ n. refl) n rest e
 
 module _ (st : State) (edition : ℕ) (bytes : List ℕ) (kind minute : ℕ) (z : ℤ) (old : List ℕ) (x : Made)
     (e : make_of st edition bytes kind minute z (length old) ≡ x) where

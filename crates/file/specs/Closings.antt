@@ -1,5 +1,6 @@
--- Paper 01, 'Making blocks and closings', and paper 02, C-12 and C-13: making a closing, and the rows of 'Where input is stopped' for it. Its figures are worked
--- out from the state that the records before it lead to, in a block of the edition told.
+-- Paper 01, 'Making blocks and closings', and paper 02, C-12 and C-13: making a closing, and the rows of 'Where input is
+-- stopped' for it. Its figures are worked out from the state that the records before it lead to, in a block of the
+-- edition told.
 use Rattle.std.specs.Prelude.{Bool, not, ◌||◌, List, [], ◌∷◌, ◌++◌, ℕ, ◌-◌, ◌/◌, ◌%◌, eqb, ℤ, pos, negsuc, length, replicate, if◌then◌else◌, Result}
 use Rattle.refusals.specs.Rows.{◌when◌, ◌or◌, unless_refused}
 use Rattle.calibration.specs.Pairs.{z_ranged_of}
@@ -72,7 +73,8 @@ closing_refusal f kind minute z =
 
 -- ---- the call
 
--- the answer to making a closing: the row that refused (0: none), and the place of the record that it refused (255: no record's row)
+-- the answer to making a closing: the row that refused (0: none), and the place of the record that it refused (255: no
+-- record's row)
 pub record Made : Type 0 where
   pub refusal : ℕ
   pub index : ℕ
@@ -91,7 +93,8 @@ made_at index refusal = made refusal index
 unfoldable pub ran_before : State → ℕ → List ℕ → Ran State
 ran_before st edition bytes = ran_from state_rules 0 (opened st edition) (records (length bytes / 40) bytes)
 
--- making, into a target of `size` bytes, before the records: 3 and 26 are for the edition told
+-- the rows of making before its records', into a target of `size` bytes: 6 stands for the records, then for the kind, and
+-- 3 and 26 for the edition told
 unfoldable pub making_refusal : State → ℕ → List ℕ → ℕ → ℕ → ℕ
 making_refusal st edition bytes kind size =
     1 when not (eqb size 40)
@@ -100,7 +103,8 @@ making_refusal st edition bytes kind size =
     or 7 when not (ready_of st)
     or told_refusal st.edition edition
 
--- making a closing: the rows of the call, those of the records before the closing, then its own, at the place past them
+-- making a closing: the rows of the call, then those of the records before the closing, then its own, at the place past
+-- them
 unfoldable pub make_of : State → ℕ → List ℕ → ℕ → ℕ → ℤ → ℕ → Made
 make_of st edition bytes kind minute z size =
     let ran : Ran State = ran_before st edition bytes in
@@ -112,7 +116,8 @@ make_of st edition bytes kind minute z size =
 -- the target after it: the new closing, or all bytes as before if there is none
 unfoldable pub made_bytes : State → ℕ → List ℕ → ℕ → ℕ → ℤ → List ℕ → List ℕ
 made_bytes st edition bytes kind minute z old =
-    if eqb (make_of st edition bytes kind minute z (length old)).refusal 0 then closing_of (facts_of (ran_before st edition bytes).kept) kind minute z
+    if eqb (make_of st edition bytes kind minute z (length old)).refusal 0
+    then closing_of (facts_of (ran_before st edition bytes).kept) kind minute z
     else old
 
 -- ---- parts of a closing, as the code writes and tests them

@@ -1,5 +1,5 @@
 -- What the table says of a record that it does not refuse.
-use Rattle.std.specs.Prelude.{◌≡◌, refl, Bool, true, false, not, ◌&&◌, List, map, ℕ, ◌-◌, ◌*◌, ◌≤◌, ◌<◌, leb, ltb, eqb, ℤ, pos, length, if◌then◌else◌, None, Some}
+use Rattle.std.specs.Prelude.{◌≡◌, refl, Bool, true, false, not, ◌&&◌, List, map, ℕ, ◌-◌, ◌*◌, ◌≤◌, ◌<◌, leb, ltb, eqb, ℤ, pos, length, if◌then◌else◌}
 use Rattle.std.proofs.Common.{sym, ap, ◌∙◌, arith, ne_eqb}
 use Rattle.std.proofs.lemmas.Bool.{and_parts, or_parts, leb-false, leb-true, ltb-false, not-false}
 use Rattle.std.proofs.lemmas.List.{length-map}
@@ -12,9 +12,9 @@ use Rattle.calibration.specs.declared.line.Line.{Line}
 use Rattle.calibration.specs.declared.pairs.Pair.{Pair}
 use Rattle.calibration.specs.declared.pairs.Requirements.{Requirements}
 use Rattle.records.specs.Record.{Record, kind, mark, minute, minute_limit, formed_of, ranged_of, field, long_field, length_of, coverage_of, z_of, function_of}
-use Rattle.records.specs.Kinds.{response_of, line_of, Calibration}
+use Rattle.records.specs.Kinds.{response_of, line_of}
 use Rattle.records.proofs.SignedLaws.{same_is}
-use Rattle.records.specs.Table.{Facts, misplaced, untimely, chart_refusal, reading_refusal, last_of, follows, times_fit, pair_refusal, days_fit, pair_of_waiting, calibration_of, annual_by, annual_of, sameℤ, pass_mark, stores_fit, stores_test, calibration_refusal, annual_refusal, in_force, value_refusal, kind_refusal, refusal_in}
+use Rattle.records.specs.Table.{Facts, misplaced, untimely, chart_refusal, reading_refusal, last_of, follows, times_fit, pair_refusal, days_fit, pair_of_waiting, calibration_of, sameℤ, pass_mark, stores_fit, calibration_refusal, kind_refusal, refusal_in}
 
 -- ---- the rows of every record
 
@@ -60,14 +60,6 @@ module _ (f : Facts) (r : Record) (A : Accepted f r) where
   unfolding kind_refusal
   calibration_passed k = rw k at A.passed
 
-  pub annual_passed : kind r ≡ 6 → annual_refusal f r ≡ 0
-  unfolding kind_refusal
-  annual_passed k = rw k at A.passed
-
-  pub value_passed : kind r ≡ 7 → value_refusal f ≡ 0
-  unfolding kind_refusal
-  value_passed k = rw k at A.passed
-
 -- a chart that takes a reading
 pub record Open (b : Bool) (n : ℕ) : Type 0 where
   pub started : b ≡ true
@@ -108,10 +100,6 @@ pair_passes f r e =
       starts = leb-true (length_of r) (minute r) v.0;
       coverage = unfit 17 (le_z (coverage_of r) (pos 90)) tt b.1;
     }
-
-pub value_passes : (f : Facts) → value_refusal f ≡ 0 → in_force f.calibration ≡ true
-unfolding value_refusal
-value_passes f e = not-false (in_force f.calibration) (unfit 19 (not (in_force f.calibration)) tt e)
 
 -- ---- closings
 
@@ -185,19 +173,3 @@ stored_line c r h =
     let b = and_parts (eqb (mark r) (pass_mark c)) (sameℤ (field r 12) c.line.slope) p.0 in
     let a = and_parts (sameℤ (long_field r 16) c.line.intercept) rest p.1 in
     rw (same_is (field r 12) c.line.slope (sure_of b.1), same_is (long_field r 16) c.line.intercept (sure_of a.0))
-
-pub record AnnualPasses (f : Facts) (r : Record) : Type 0 where
-  pub in_force : in_force f.calibration ≡ true
-  pub tests : (annual_of f).refusal ≡ 0
-  pub stores : stores_test (annual_of f) (length f.pending) r ≡ true
-
-pub annual_passes : (f : Facts) (r : Record) → annual_refusal f r ≡ 0 → AnnualPasses f r
-unfolding annual_refusal annual_by
-annual_passes f r e =
-    let o = rows_passed (annual_of f).refusal e in
-    let s = unfit 25 (not (stores_test (annual_of f) (length f.pending) r)) tt o.1 in
-    record { in_force = by_function f.calibration o.0; tests = o.0; stores = not-false (stores_test (annual_of f) (length f.pending) r) s }
-  where
-    by_function : (k : Calibration) → (annual_by k f).refusal ≡ 0 → in_force k ≡ true
-    by_function None e = absurd (omega arith)
-    by_function (Some l) e = refl

@@ -21,17 +21,20 @@ module _ (bytes : List ℕ) (at : ℕ) (new : List ℕ) (h : at + length new ≤
   written_length = simp (length-append, length-take, length-drop) (omega arith)
 
   -- more is written at the end of what was written
-  pub written_more : (more : List ℕ) (end : ℕ) → end ≡ at + length new → written (written bytes at new) end more ≡ written bytes at (new ++ more)
+  pub written_more : (more : List ℕ) (end : ℕ) → end ≡ at + length new
+      → written (written bytes at new) end more ≡ written bytes at (new ++ more)
   written_more more end e =
       let front = take at bytes ++ new in
       let rest = drop (at + length new) bytes in
       let count : at + length new + length more ≡ at + length (new ++ more) = omega (arith, length-append new more) in
       let f : take end (front ++ rest) ≡ front = take_at front rest end (head_length ∙ sym e) in
       let g : drop (end + length more) (front ++ rest) ≡ drop (at + length (new ++ more)) bytes =
-      ap (λ (n : ℕ). drop (n + length more) (front ++ rest)) (e ∙ sym head_length) ∙ drop-append-add front rest (length more)
+      ap (λ (n : ℕ). drop (n + length more) (front ++ rest)) (e ∙ sym head_length)
+      ∙ drop-append-add front rest (length more)
       ∙ drop-drop (length more) (at + length new) bytes
       ∙ ap (λ (n : ℕ). drop n bytes) count in
-      rw (f, g) (ap (λ (l : List ℕ). l ++ drop (at + length (new ++ more)) bytes) (append_assoc (take at bytes) new more))
+      let after : List ℕ = drop (at + length (new ++ more)) bytes in
+      rw (f, g) (ap (λ (l : List ℕ). l ++ after) (append_assoc (take at bytes) new more))
 
 -- what is written over all the bytes
 pub written_whole : (bytes new : List ℕ) → length new ≡ length bytes → written bytes 0 new ≡ new
@@ -70,7 +73,8 @@ le16_past first rest at e =
     ap (λ (n : ℕ). get_or (first ++ rest) (n + 1) 0) (sym e) ∙ get_or-append-add first rest 1 0 in
     rw (zero-past, one-past)
 
-pub take_two : (bytes : List ℕ) (at : ℕ) → at + 2 ≤ length bytes → take 2 (drop at bytes) ≡ get_or bytes at 0 ∷ get_or bytes (at + 1) 0 ∷ []
+pub take_two : (bytes : List ℕ) (at : ℕ) → at + 2 ≤ length bytes
+    → take 2 (drop at bytes) ≡ get_or bytes at 0 ∷ get_or bytes (at + 1) 0 ∷ []
 take_two bytes at h =
     let one : at < length bytes = omega arith in
     let two : suc at < length bytes = omega arith in
@@ -98,26 +102,30 @@ module _ (bytes : List ℕ) (small : AllBytes bytes) (at : ℕ) where
   pub le16_back : at + 2 ≤ length bytes → bytes16 (le16 bytes at) ≡ take 2 (drop at bytes)
   le16_back h =
       sym (to_le_bytes_16 (le16 bytes at))
-      ∙ le_bytes_2 (take 2 (drop at bytes)) (le16 bytes at) (simp (length-take, length-drop) (omega arith)) (bytes_take 2 (drop at bytes) (bytes_drop at bytes small)) (sym (from_le_bytes_16 bytes at))
+      ∙ le_bytes_2 (take 2 (drop at bytes)) (le16 bytes at) (simp (length-take, length-drop) (omega arith))
+      (bytes_take 2 (drop at bytes) (bytes_drop at bytes small)) (sym (from_le_bytes_16 bytes at))
 
   pub le32_back : at + 4 ≤ length bytes → bytes32 (le32 bytes at) ≡ take 4 (drop at bytes)
   le32_back h =
       sym (to_le_bytes_32 (le32 bytes at))
-      ∙ le_bytes_4 (take 4 (drop at bytes)) (le32 bytes at) (simp (length-take, length-drop) (omega arith)) (bytes_take 4 (drop at bytes) (bytes_drop at bytes small)) (sym (from_le_bytes_32 bytes at))
+      ∙ le_bytes_4 (take 4 (drop at bytes)) (le32 bytes at) (simp (length-take, length-drop) (omega arith))
+      (bytes_take 4 (drop at bytes) (bytes_drop at bytes small)) (sym (from_le_bytes_32 bytes at))
 
 -- ---- zeros
 
 pub zero_append : (a b : List ℕ) → all_zero (a ++ b) ≡ (all_zero a && all_zero b)
 unfolding all_zero
 zero_append [] b = refl
-zero_append (x ∷ a) b = ap (λ (t : Bool). eqb x 0 && t) (zero_append a b) ∙ sym (and_assoc (eqb x 0) (all_zero a) (all_zero b))
+zero_append (x ∷ a) b =
+    ap (λ (t : Bool). eqb x 0 && t) (zero_append a b)
+    ∙ sym (and_assoc (eqb x 0) (all_zero a) (all_zero b))
 
 pub replicate_zero : (n : ℕ) → all_zero (replicate n 0) ≡ true
 unfolding all_zero
 replicate_zero zero = refl
 replicate_zero (suc n) = replicate_zero n
 
--- bytes that are all zero are so many zeros
+-- bytes that are all zero are as many zeros
 pub zero_is : (l : List ℕ) → all_zero l ≡ true → l ≡ replicate (length l) 0
 unfolding all_zero
 zero_is [] h = refl

@@ -20,4 +20,7 @@ module _ {A : Type 0} where
   pub those_since : (p q : A → Bool) (r : A) (h : List A)
       → those p (since q (r ∷ h)) ≡ (if q r then [] else (if p r then r ∷ those p (since q h) else those p (since q h)))
   those_since p q r h =
-      elim (q r) as (λ b. those p (if b then [] else r ∷ since q h) ≡ (if b then [] else (if p r then r ∷ those p (since q h) else those p (since q h)))) [ true ↦ refl | false ↦ refl ]
+      elim (q r) as
+      (λ b. those p (if b then [] else r ∷ since q h)
+      ≡ (if b then [] else (if p r then r ∷ those p (since q h) else those p (since q h))))
+      [ true ↦ refl | false ↦ refl ]

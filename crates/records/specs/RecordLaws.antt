@@ -24,7 +24,8 @@ setting_fields r h =
     let p = holds
     (answers_and (requirements_answers (requirements_of r))
     (answers_and (between_answers (pos 1) (pos 10000) (field r 16))
-    (answers_and (between_answers (pos 1) (pos 10000) (field r 20)) (between_answers (pos 0) (pos 60) (field r 28))))) h in
+    (answers_and (between_answers (pos 1) (pos 10000) (field r 20))
+    (between_answers (pos 0) (pos 60) (field r 28))))) h in
     record { requirements = p.0; zero = p.1.0; span = p.1.1.0; response = p.1.1.1 }
 
 pub record ReadingFields (r : Record) : Type 0 where
@@ -35,7 +36,9 @@ pub record ReadingFields (r : Record) : Type 0 where
 pub reading_fields : (r : Record) → reading_ranged r ≡ true → ReadingFields r
 unfolding reading_ranged difference_of
 reading_fields r h =
-    let p = holds (answers_and (between_answers (neg_ℤ (pos 400000)) (pos 400000) (field r 8)) (between_answers (pos 0) (pos 400000) (field r 12))) h in
+    let p = holds
+    (answers_and (between_answers (neg_ℤ (pos 400000)) (pos 400000) (field r 8))
+    (between_answers (pos 0) (pos 400000) (field r 12))) h in
     let d = diff (field r 8) (field r 12) in
     let low = le_ud p.0.low in
     let high = le_ud p.0.high in
@@ -69,7 +72,8 @@ pub record ValueFields (r : Record) : Type 0 where
 pub value_fields : (r : Record) → value_ranged r ≡ true → ValueFields r
 unfolding value_ranged
 value_fields r h =
-    let p = holds (answers_and (between_answers (pos 0) (pos 400000) (signal_of r)) (conditions_answers (value_conditions r))) h in
+    let p = holds
+    (answers_and (between_answers (pos 0) (pos 400000) (signal_of r)) (conditions_answers (value_conditions r))) h in
     record { signal = p.0; conditions = p.1 }
 
 pub z_field : (r : Record) → z_ranged_of (z_of r) ≡ true → ZRanged (z_of r)

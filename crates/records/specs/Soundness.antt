@@ -98,7 +98,8 @@ pub record Sound (most : ℕ) (st : State) : Type 0 where
   pub outside : st.tally.outside ≤ most
   pub over : st.over ≤ most
 
--- The counts leave room for one record more, in 32 bits. No list of calls comes near: it has at most 12,000,000 records.
+-- The counts leave room for one record more, in 32 bits. No list of calls comes near: it has at most 12,000,000
+-- records.
 abbrev pub count_limit : ℕ
 count_limit = 4000000000
 

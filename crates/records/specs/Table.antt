@@ -1,6 +1,6 @@
--- Paper 01, 'Where input is stopped', rows 10 to 25, with the times, coverage, days and span of 'Calibration (6.4, 6.5)', and paper 02, C-12 and C-13.
--- The rows ask certain facts of the records before, and the edition of the record's own block; they are the same whether read from a history or from a
--- state.
+-- Paper 01, 'Where input is stopped', rows 10 to 25, with the times, coverage, days and span of 'Calibration (6.4, 6.5)',
+-- and paper 02, C-12 and C-13. The rows ask certain facts of the records before, and the edition of the record's own
+-- block; they are the same whether read from a history or from a state.
 use Rattle.std.specs.Prelude.{Bool, true, false, not, ◌&&◌, ◌||◌, List, [], ◌∷◌, map, ℕ, suc, ◌+◌, ◌-◌, ◌*◌, leb, ltb, eqb, ℤ, pos, length, if◌then◌else◌, None, Some}
 use Rattle.std.proofs.Math.Option.{Option, none, some}
 use Rattle.std.specs.Int.Signed.{le_z}
@@ -15,10 +15,10 @@ use Rattle.records.specs.Kinds.{sets, day_of, response_of, line_of, Calibration}
 use Rattle.records.specs.declared.state.Setting.{Setting}
 use Rattle.records.specs.declared.state.Waiting.{Waiting}
 
--- what the rows ask beside the record: is there one before it, the last minute, the setting, of each chart whether it is started
--- and how many readings it has since its reset, the pairs that wait (oldest first), the function in force, and the edition of
--- the block in which the record stands. By this one all figures of a closing are rounded, y' too, whichever the edition in which its pairs were taken
--- (paper 02, C-13).
+-- what the rows ask beside the record: is there one before it, the last minute, the setting, of each chart whether it is
+-- started and how many readings it has since its reset, the pairs that wait (oldest first), the function in force, and
+-- the edition of the block in which the record stands. By this one all figures of a closing are rounded, y' too,
+-- whichever the edition in which its pairs were taken (paper 02, C-13).
 pub record Facts : Type 0 where
   pub begun : Bool
   pub minute : ℕ
