@@ -1,4 +1,5 @@
--- What the code asks where it changes a state in place: an accepted record of one kind, in the week of the record before.
+-- What the code asks where it changes a state in place: an accepted record of one kind, in the week of the record
+-- before.
 use Rattle.std.specs.Prelude.{◌≡◌, Bool, false, ◌&&◌, ℕ, eqb, leb}
 use Rattle.records.specs.Record.{Record, kind, minute}
 use Rattle.records.specs.Kinds.{week_of}
