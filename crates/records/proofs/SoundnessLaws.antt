@@ -14,7 +14,7 @@ use Rattle.calibration.proofs.FitRange.{fitted_ranged}
 use Rattle.calibration.specs.PairLaws.{between_abs}
 use Rattle.records.specs.Record.{Record, kind, mark, minute, setting_ranged, setting_of, difference_of, waiting_of, function_of, z_of}
 use Rattle.records.specs.RecordLaws.{WaitingFields, setting_fields, setting_ranged_lem, reading_fields, reading_ranged_lem, waiting_fields, waiting_ranged_lem, z_field, z_ranged}
-use Rattle.records.specs.Kinds.{setting_after, calibration_after, Point, at_zero, at_span, number, deviation_of, reads, resets, sets, is_pair, empties, calibrates, comes_into_force, starts_period, counts, no_values, one_more, exceeds, outside_by, line_of}
+use Rattle.records.specs.Kinds.{Point, at_zero, at_span, number, deviation_of, reads, resets, sets, is_pair, empties, calibrates, comes_into_force, starts_period, counts, setting_after, calibration_after, no_values, one_more, exceeds, outside_by, line_of}
 use Rattle.records.specs.Table.{misplaced, pair_of_waiting, reading_refusal, refusal_in}
 use Rattle.records.proofs.TableLaws.{Accepted, accepted, reading_passed, zero_open, span_open, pair_passed, pair_passes, calibration_passed, calibration_passes, stored_line}
 use Rattle.records.specs.State.{chart_of, no_pairs, initial_of, facts_of, chart_after, turns_from, judged_at, running_at, applied_to}

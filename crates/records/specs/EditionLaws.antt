@@ -8,7 +8,7 @@ use Rattle.std.proofs.Common.{sym, ap, ◌∙◌}
 use Rattle.charts.specs.Runs.{Alarm}
 use Rattle.records.specs.Lists.{since, those, any, those_since}
 use Rattle.records.specs.Record.{Record, difference_of, waiting_of}
-use Rattle.records.specs.Kinds.{setting_after, calibration_after, Point, at_zero, at_span, reads, resets, is_pair, empties, starts_period, no_values, one_more}
+use Rattle.records.specs.Kinds.{Point, at_zero, at_span, reads, resets, is_pair, empties, starts_period, setting_after, calibration_after, no_values, one_more}
 use Rattle.records.specs.Table.{Facts, refusal_in}
 use Rattle.records.specs.History.{Entry, History, on, setting_in, last_minute, started_in, differences_in, AlarmStands, pending_in, function_in, value_of_week, outside_when, tally_in, begun_in, facts_in, refusal_of}
 use Rattle.records.specs.declared.state.Waiting.{Waiting}

@@ -6,7 +6,7 @@ use Rattle.std.proofs.Math.Option.{Option, none, some, get_or}
 use Rattle.charts.specs.Runs.{Alarm, Stands}
 use Rattle.records.specs.Lists.{since, those, any}
 use Rattle.records.specs.Record.{Record, minute, difference_of, waiting_of}
-use Rattle.records.specs.Kinds.{setting_after, calibration_after, Point, no_setting, at_zero, at_span, reads, resets, is_pair, fails, empties, clears_calls, starts_period, counts, deviation_of, week_of, outside_by, no_values, one_more, exceeds, raises_call, Calibration}
+use Rattle.records.specs.Kinds.{Point, no_setting, at_zero, at_span, reads, resets, is_pair, fails, empties, clears_calls, starts_period, counts, setting_after, calibration_after, deviation_of, week_of, outside_by, no_values, one_more, exceeds, raises_call, Calibration}
 use Rattle.records.specs.Table.{Facts, refusal_in}
 use Rattle.records.specs.declared.state.Setting.{Setting}
 use Rattle.records.specs.declared.state.Waiting.{Waiting}
