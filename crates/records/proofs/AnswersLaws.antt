@@ -7,19 +7,12 @@ use Rattle.charts.specs.Charts.{blank, reset_of, alarms_of}
 use Rattle.charts.specs.Runs.{Alarm, rising, falling, precision, Stands}
 use Rattle.charts.specs.Readings.{Reading, after_readings, alarm_of}
 use Rattle.charts.proofs.ChartLaws.{alarms_after, blank_answers}
-use Rattle.charts.specs.declared.Alarms.{Alarms}
 use Rattle.records.specs.Kinds.{Point, at_zero, at_span, deviation_of, Calibration}
 use Rattle.records.specs.Record.{difference_of}
-use Rattle.records.specs.History.{History, on, last_minute, setting_in, started_in, differences_in, function_in, first_call, AlarmStands, minute_of, Recent, Usable}
-use Rattle.records.specs.Summary.{reading_of, readings_since, chart_in, demand_of, Place, summary_of}
+use Rattle.records.specs.History.{History, on, last_minute, setting_in, started_in, readings_since, differences_in, function_in, first_call, AlarmStands, minute_of, Recent, Usable}
+use Rattle.records.specs.Summary.{reading_of, chart_in, demand_of, Place, summary_of}
 use Rattle.records.proofs.SummaryLaws.{differences_of}
-use Rattle.records.specs.Answers.{zero_alarms, span_alarms, silent, young_of, recent_of, usable_of}
-use Rattle.records.specs.declared.state.State.{State}
-
--- the alarms of a chart's state
-abbrev pub alarms_at : Point → State → Alarms
-alarms_at at_zero st = zero_alarms st
-alarms_at at_span st = span_alarms st
+use Rattle.records.specs.Answers.{alarms_at, silent, young_of, recent_of, usable_of}
 
 -- the chart of a history shows an alarm exactly if the history has it
 chart_answers : (c : Point) (a : Alarm) (h : History) → Answers (alarm_of a (alarms_of (chart_in c h) (deviation_of c (setting_in h)))) (AlarmStands c a h)
@@ -38,7 +31,7 @@ chart_answers c a h = go (started_in c h)
 
 -- ALARMS: each of the six, answered from the summary, stands exactly if some run of the history's readings says so
 pub alarm_says : (c : Point) (a : Alarm) (p : Place) (h : History) → Answers (alarm_of a (alarms_at c (summary_of p h))) (AlarmStands c a h)
-unfolding zero_alarms span_alarms summary_of
+unfolding alarms_at summary_of
 alarm_says at_zero a p h = chart_answers at_zero a h
 alarm_says at_span a p h = chart_answers at_span a h
 

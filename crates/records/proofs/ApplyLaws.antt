@@ -8,16 +8,14 @@ use lib.Dec.{eqb}
 use Rattle.std.specs.Prelude.{if◌then◌else◌, None, Some}
 use Rattle.std.specs.Option.{option_or}
 use Rattle.std.proofs.Math.Facts.{eqb_yes, eqb_no}
-use Rattle.charts.specs.Charts.{applied_of}
 use Rattle.charts.specs.ChartSoundness.{ChartSound}
-use Rattle.charts.specs.declared.Chart.{Chart}
 use Rattle.charts.specs.Tests.{if_all}
-use Rattle.records.specs.Record.{Record, kind, mark, minute, difference_of, function_of, setting_of, waiting_of}
-use Rattle.records.specs.Kinds.{reads, resets, sets, is_pair, calibrates, passes, fails, empties, comes_into_force, clears_calls, starts_period, counts, no_values, raises_call, Demand}
+use Rattle.records.specs.Record.{Record, kind, mark, minute, function_of, setting_of, waiting_of}
+use Rattle.records.specs.Kinds.{Point, at_zero, at_span, point_of, reads, resets, sets, is_pair, calibrates, is_passed, fails, empties, counts, no_values, raises_call, Demand}
 use Rattle.records.specs.Table.{reading_refusal}
 use Rattle.records.proofs.TableLaws.{zero_open, span_open}
-use Rattle.records.specs.State.{facts_of, chart_after, turns_from, judged_at, running_at, raised_of, applied_to}
-use Rattle.records.specs.StateParts.{chart_at, deviation_at, with_chart, with_reading, with_reset, with_pair, emptied, with_failure, with_function, with_calibration, with_period, with_annual, with_value, judged_of}
+use Rattle.records.specs.State.{chart_of, facts_of, chart_after, turns_from, judged_at, running_at, raised_of, applied_to}
+use Rattle.records.specs.StateParts.{with_reading, with_reset, with_pair, emptied, with_failure, with_function, with_calibration, with_period, with_annual, with_value, judged_of}
 use Rattle.records.specs.declared.state.State.{State}
 use Rattle.records.specs.declared.state.Tally.{Tally}
 
@@ -52,23 +50,23 @@ module _ (st : State) (r : Record) where
   judged_outside = if_all (λ (t : Tally). t.outside ≤ st.tally.outside) (turns_from st.minute (minute r)) _ _ (λ t. omega arith) (λ t. omega arith)
 
   pub applied_setting : kind r ≡ 1 → record judged { setting = setting_of r } ≡ applied_to st r
-  unfolding judged_of applied_to chart_after sets reads resets is_pair empties calibrates passes fails counts comes_into_force clears_calls starts_period
+  unfolding judged_of applied_to chart_after sets reads resets is_pair empties calibrates is_passed fails counts
   applied_setting k = rw k
 
   pub applied_reading : kind r ≡ 2 → mark r ≤ 1 → with_reading judged r ≡ applied_to st r
-  unfolding judged_of applied_to chart_after sets reads resets is_pair empties calibrates passes fails counts comes_into_force clears_calls starts_period with_reading
+  unfolding judged_of applied_to chart_after sets reads resets is_pair empties calibrates is_passed fails counts with_reading
   applied_reading k h = ⊎_elim (λ (e : mark r ≡ 0). rw (k, e)) (λ (e : mark r ≡ 1). rw (k, e)) (two_marks h)
 
   pub applied_reset : kind r ≡ 3 → mark r ≤ 1 → with_reset judged r ≡ applied_to st r
-  unfolding judged_of applied_to chart_after sets reads resets is_pair empties calibrates passes fails counts comes_into_force clears_calls starts_period with_reset
+  unfolding judged_of applied_to chart_after sets reads resets is_pair empties calibrates is_passed fails counts with_reset
   applied_reset k h = ⊎_elim (λ (e : mark r ≡ 0). rw (k, e)) (λ (e : mark r ≡ 1). rw (k, e)) (two_marks h)
 
   pub applied_pair : kind r ≡ 4 → with_pair judged (waiting_of r) ≡ applied_to st r
-  unfolding judged_of applied_to chart_after sets reads resets is_pair empties calibrates passes fails counts comes_into_force clears_calls starts_period
+  unfolding judged_of applied_to chart_after sets reads resets is_pair empties calibrates is_passed fails counts
   applied_pair k = rw k
 
   pub applied_calibration : kind r ≡ 5 → with_calibration judged r ≡ applied_to st r
-  unfolding judged_of applied_to chart_after sets reads resets is_pair empties calibrates passes fails counts comes_into_force clears_calls starts_period with_calibration with_failure
+  unfolding judged_of applied_to chart_after sets reads resets is_pair empties calibrates is_passed fails counts with_calibration with_failure
   applied_calibration k = by_mark (eqb (mark r) 1) refl
     where
       by_mark : (b : Bool) → eqb (mark r) 1 ≡ b → with_calibration judged r ≡ applied_to st r
@@ -76,7 +74,7 @@ module _ (st : State) (r : Record) where
       by_mark false e = rw (k, e, raised_again (raises_call (judged_at st (minute r)) st.over) st.demand (minute r))
 
   pub applied_annual : kind r ≡ 6 → with_annual judged r ≡ applied_to st r
-  unfolding judged_of applied_to chart_after sets reads resets is_pair empties calibrates passes fails counts comes_into_force clears_calls starts_period with_annual with_failure
+  unfolding judged_of applied_to chart_after sets reads resets is_pair empties calibrates is_passed fails counts with_annual with_failure
   applied_annual k = by_mark (eqb (mark r) 3) refl
     where
       by_mark : (b : Bool) → eqb (mark r) 3 ≡ b → with_annual judged r ≡ applied_to st r
@@ -84,7 +82,7 @@ module _ (st : State) (r : Record) where
       by_mark false e = rw (k, e, raised_again (raises_call (judged_at st (minute r)) st.over) st.demand (minute r))
 
   pub applied_value : kind r ≡ 7 → with_value judged r ≡ applied_to st r
-  unfolding judged_of applied_to chart_after sets reads resets is_pair empties calibrates passes fails counts comes_into_force clears_calls starts_period with_value
+  unfolding judged_of applied_to chart_after sets reads resets is_pair empties calibrates is_passed fails counts with_value
   applied_value k = by_mark (eqb (mark r) 0) refl
     where
       by_mark : (b : Bool) → eqb (mark r) 0 ≡ b → with_value judged r ≡ applied_to st r
@@ -92,31 +90,22 @@ module _ (st : State) (r : Record) where
       by_mark false e = rw (k, e)
 
   pub applied_drop : kind r ≡ 8 → emptied judged ≡ applied_to st r
-  unfolding judged_of applied_to chart_after sets reads resets is_pair empties calibrates passes fails counts comes_into_force clears_calls starts_period
+  unfolding judged_of applied_to chart_after sets reads resets is_pair empties calibrates is_passed fails counts
   applied_drop k = rw k
 
 -- ---- the chart of a mark
 
 module _ (st : State) (r : Record) where
   -- a reading that the table accepts finds room in its chart
-  pub chart_room : reading_refusal (facts_of st) r ≡ 0 → (chart_at st (mark r)).readings < 100000
+  pub chart_room : reading_refusal (facts_of st) r ≡ 0 → (chart_of (point_of (mark r)) st).readings < 100000
   unfolding facts_of
   chart_room e =
-      if_all (λ (c : Chart). c.readings < 100000) (eqb (mark r) 0) st.zero st.span
+      if_all (λ (c : Point). (chart_of c st).readings < 100000) (eqb (mark r) 0) at_zero at_span
       (λ t. (zero_open (facts_of st) r e (eqb_yes t)).room)
       (λ t. (span_open (facts_of st) r e (eqb_no t)).room)
 
-  pub chart_sound : ChartSound st.zero → ChartSound st.span → ChartSound (chart_at st (mark r))
-  chart_sound z s = if_all ChartSound (eqb (mark r) 0) st.zero st.span (λ t. z) (λ t. s)
-
-  pub reading_of_mark : with_chart st (mark r) (applied_of (chart_at st (mark r)) st.edition (deviation_at st.setting (mark r)) (difference_of r)) ≡ with_reading st r
-  unfolding with_reading
-  reading_of_mark = by_mark (eqb (mark r) 0) refl
-    where
-      by_mark : (b : Bool) → eqb (mark r) 0 ≡ b
-          → with_chart st (mark r) (applied_of (chart_at st (mark r)) st.edition (deviation_at st.setting (mark r)) (difference_of r)) ≡ with_reading st r
-      by_mark true e = rw e
-      by_mark false e = rw e
+  pub chart_sound : ChartSound st.zero → ChartSound st.span → ChartSound (chart_of (point_of (mark r)) st)
+  chart_sound z s = if_all (λ (c : Point). ChartSound (chart_of c st)) (eqb (mark r) 0) at_zero at_span (λ t. z) (λ t. s)
 
 -- ---- a closing, by its mark
 

@@ -1,5 +1,5 @@
 -- The summary of no record is sound, and an accepted record keeps a state so.
-use Rattle.std.specs.Prelude.{◌≡◌, refl, Bool, true, false, not, List, [], ◌∷◌, map, ℕ, zero, suc, ◌+◌, ◌≤◌, ◌<◌, eqb, set, if◌then◌else◌, Some}
+use Rattle.std.specs.Prelude.{◌≡◌, refl, Bool, true, false, not, List, [], ◌∷◌, map, ℕ, zero, suc, ◌+◌, ◌≤◌, ◌<◌, eqb, set, if◌then◌else◌}
 use Rattle.std.proofs.Common.{subst, ◌∙◌, arith, add-one, length-set}
 use Rattle.std.proofs.Math.Dec.{T}
 use Rattle.std.proofs.Math.ListN.{length, take, length-take, length-map}
@@ -14,10 +14,10 @@ use Rattle.calibration.proofs.FitRange.{fitted_ranged}
 use Rattle.calibration.proofs.RangeLaws.{between_abs}
 use Rattle.records.specs.Record.{Record, kind, mark, minute, minute_limit, setting_ranged, setting_of, difference_of, waiting_of, function_of, z_of}
 use Rattle.records.specs.RecordLaws.{WaitingFields, setting_fields, setting_ranged_lem, reading_fields, reading_ranged_lem, waiting_fields, waiting_ranged_lem, z_field, z_ranged}
-use Rattle.records.specs.Kinds.{Point, at_zero, at_span, deviation_of, reads, resets, sets, is_pair, empties, calibrates, comes_into_force, starts_period, counts, no_values, one_more, exceeds, outside_by, line_of}
-use Rattle.records.specs.Table.{misplaced, pair_of_waiting, refusal_in}
+use Rattle.records.specs.Kinds.{Point, at_zero, at_span, number, deviation_of, reads, resets, sets, is_pair, empties, calibrates, comes_into_force, starts_period, counts, setting_after, calibration_after, no_values, one_more, exceeds, outside_by, line_of}
+use Rattle.records.specs.Table.{misplaced, pair_of_waiting, reading_refusal, refusal_in}
 use Rattle.records.proofs.TableLaws.{Accepted, accepted, reading_passed, zero_open, span_open, pair_passed, pair_passes, calibration_passed, calibration_passes, stored_line}
-use Rattle.records.specs.State.{no_pairs, initial_of, facts_of, chart_after, turns_from, judged_at, running_at, applied_to}
+use Rattle.records.specs.State.{chart_of, no_pairs, initial_of, facts_of, chart_after, turns_from, judged_at, running_at, applied_to}
 use Rattle.records.specs.History.{pending_in, function_in, tally_in, weeks_over}
 use Rattle.records.specs.Summary.{Place, chart_in, summary_of}
 use Rattle.records.specs.Soundness.{SettingSound, WaitingSound, AllSound, CalibrationSound, BegunSound, Sound}
@@ -128,46 +128,43 @@ pairs_ranged (w ∷ ws) A = (A.0.pair, pairs_ranged ws A.1)
 -- ---- the tally
 
 -- at most one is counted: of both counts of a tally at once
-abbrev Within : ℕ → Tally → Type 0
-Within m t = (t.total ≤ m) × (t.outside ≤ m)
+abbrev AtMost : ℕ → Tally → Type 0
+AtMost m t = (t.total ≤ m) × (t.outside ≤ m)
 
-tally_within : (starts counts outside : Bool) (m : ℕ) (t : Tally) → Within m t → Within (m + 1) (if starts then no_values else (if counts then one_more outside t else t))
+tally_at_most : (starts counts outside : Bool) (m : ℕ) (t : Tally) → AtMost m t → AtMost (m + 1) (if starts then no_values else (if counts then one_more outside t else t))
 unfolding no_values one_more
-tally_within true counts outside m t w = (omega arith, omega arith)
-tally_within false true true m t w = (omega (arith, w.0), omega (arith, w.1))
-tally_within false true false m t w = (omega (arith, w.0), omega (arith, w.1))
-tally_within false false outside m t w = (omega (arith, w.0), omega (arith, w.1))
+tally_at_most true counts outside m t w = (omega arith, omega arith)
+tally_at_most false true true m t w = (omega (arith, w.0), omega (arith, w.1))
+tally_at_most false true false m t w = (omega (arith, w.0), omega (arith, w.1))
+tally_at_most false false outside m t w = (omega (arith, w.0), omega (arith, w.1))
 
-running_within : (m n : ℕ) (st : State) → Within m st.tally → Within m (running_at st n)
+running_at_most : (m n : ℕ) (st : State) → AtMost m st.tally → AtMost m (running_at st n)
 unfolding running_at no_values
-running_within m n st w = if_all (Within m) (turns_from st.minute n) _ _ (λ t. (omega arith, omega arith)) (λ t. w)
+running_at_most m n st w = if_all (AtMost m) (turns_from st.minute n) _ _ (λ t. (omega arith, omega arith)) (λ t. w)
 
-over_within : (starts over : Bool) (n m : ℕ) → n ≤ m → (if starts then 0 else (if over then n + 1 else n)) ≤ m + 1
-over_within true over n m h = omega arith
-over_within false true n m h = omega arith
-over_within false false n m h = omega arith
+over_at_most : (starts over : Bool) (n m : ℕ) → n ≤ m → (if starts then 0 else (if over then n + 1 else n)) ≤ m + 1
+over_at_most true over n m h = omega arith
+over_at_most false true n m h = omega arith
+over_at_most false false n m h = omega arith
 
 -- ---- an accepted record
 
 module _ (st : State) (r : Record) (A : Accepted (facts_of st) r) where
-  zero_fits : T (reads at_zero r) → (st.zero.readings < 100000) × DifferenceRanged (difference_of r)
+  -- a reading finds room in its chart, and its difference is in its range
+  reading_fits : (c : Point) → T (reads c r) → ((chart_of c st).readings < 100000) × DifferenceRanged (difference_of r)
   unfolding reads facts_of
-  zero_fits t =
-      let p = and_yes (eqb (kind r) 2) (eqb (mark r) 0) t in
+  reading_fits c t =
+      let p = and_yes (eqb (kind r) 2) (eqb (mark r) (number c)) t in
       let k = eqb_yes p.0 in
-      ((zero_open (facts_of st) r (reading_passed (facts_of st) r A k) (eqb_yes p.1)).room, (reading_fields r (reading_ranged_lem r A.ranged k)).difference)
+      (room c (reading_passed (facts_of st) r A k) (eqb_yes p.1), (reading_fields r (reading_ranged_lem r A.ranged k)).difference)
+    where
+      room : (c : Point) → reading_refusal (facts_of st) r ≡ 0 → mark r ≡ number c → (chart_of c st).readings < 100000
+      room at_zero e m = (zero_open (facts_of st) r e m).room
+      room at_span e m = (span_open (facts_of st) r e (λ z. omega arith)).room
 
-  span_fits : T (reads at_span r) → (st.span.readings < 100000) × DifferenceRanged (difference_of r)
-  unfolding reads facts_of
-  span_fits t =
-      let p = and_yes (eqb (kind r) 2) (eqb (mark r) 1) t in
-      let k = eqb_yes p.0 in
-      let one : mark r ≡ 1 = eqb_yes p.1 in
-      ((span_open (facts_of st) r (reading_passed (facts_of st) r A k) (λ e. omega arith)).room, (reading_fields r (reading_ranged_lem r A.ranged k)).difference)
-
-  setting_after : BegunSound st.begun st.setting → SettingSound (if sets r then setting_of r else st.setting)
+  new_setting_sound : BegunSound st.begun st.setting → SettingSound (setting_after r st.setting)
   unfolding sets
-  setting_after S =
+  new_setting_sound S =
       if_all SettingSound (sets r) _ _ (λ t. setting_sound r (setting_ranged_lem r A.ranged (eqb_yes t))) (λ t. setting_known st r A.placed t S)
 
   pending_after : length st.pairs ≡ 30 → st.pending ≤ 30 → (if empties r then 0 else (if is_pair r then st.pending + 1 else st.pending)) ≤ 30
@@ -184,9 +181,9 @@ module _ (st : State) (r : Record) (A : Accepted (facts_of st) r) where
   waiting_after t = waiting_sound r (waiting_fields r (waiting_ranged_lem r A.ranged (eqb_yes t))) A.until
 
 module _ (m : ℕ) (st : State) (r : Record) (S : Sound m st) (A : Accepted (facts_of st) r) where
-  calibration_after : CalibrationSound (if comes_into_force r then Some (function_of r) else st.calibration)
-  unfolding comes_into_force calibrates sets facts_of
-  calibration_after = if_all CalibrationSound (comes_into_force r) _ _ in_force (λ t. S.calibration)
+  calibration_sound : CalibrationSound (calibration_after r st.calibration)
+  unfolding calibrates sets facts_of
+  calibration_sound = if_all CalibrationSound (comes_into_force r) _ _ in_force (λ t. S.calibration)
     where
       in_force : T (comes_into_force r) → LineRanged (line_of (function_of r))
       in_force t =
@@ -202,16 +199,16 @@ pub applied_sound : (m : ℕ) (st : State) (r : Record) → length st.pairs ≡ 
 unfolding applied_to
 applied_sound m st r h S e =
     let A = accepted (facts_of st) r e in
-    let w = tally_within (starts_period r) (counts r) (outside_by st.edition st.calibration st.setting r) m (running_at st (minute r)) (running_within m (minute r) st (S.total, S.outside)) in
+    let w = tally_at_most (starts_period r) (counts r) (outside_by st.edition st.calibration st.setting r) m (running_at st (minute r)) (running_at_most m (minute r) st (S.total, S.outside)) in
     record {
       minute = A.until;
-      setting = setting_after st r A S.setting;
-      zero = chart_sound st.edition at_zero st.setting r st.zero S.zero (zero_fits st r A);
-      span = chart_sound st.edition at_span st.setting r st.span S.span (span_fits st r A);
+      setting = new_setting_sound st r A S.setting;
+      zero = chart_sound st.edition at_zero st.setting r st.zero S.zero (reading_fits st r A at_zero);
+      span = chart_sound st.edition at_span st.setting r st.span S.span (reading_fits st r A at_span);
       pending = pending_after st r A h S.pending;
       pairs = kept_sound (empties r) (is_pair r) st.pending st.pairs (waiting_of r) S.pairs (waiting_after st r A);
-      calibration = calibration_after m st r S A;
+      calibration = calibration_sound m st r S A;
       total = w.0;
       outside = w.1;
-      over = over_within (starts_period r) (exceeds 5 (judged_at st (minute r))) st.over m S.over;
+      over = over_at_most (starts_period r) (exceeds 5 (judged_at st (minute r))) st.over m S.over;
     }

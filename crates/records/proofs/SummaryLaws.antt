@@ -16,10 +16,10 @@ use Rattle.records.specs.Record.{Record, kind, mark, minute, setting_of, differe
 use Rattle.records.specs.Kinds.{Point, at_zero, at_span, number, reads, resets, sets, is_pair, fails, empties, clears_calls, deviation_of, Demand}
 use Rattle.records.specs.Table.{Facts, misplaced, reading_refusal, refusal_in}
 use Rattle.records.proofs.TableLaws.{Accepted, accepted, reading_passed, pair_passed, zero_open, span_open, pair_passes}
-use Rattle.records.specs.History.{Entry, History, on, begun_in, last_minute, setting_in, started_in, differences_in, pending_in, function_in, tally_in, judged_on, weeks_over, week_calls, calls_in, oldest, first_call, facts_in, refusal_of}
+use Rattle.records.specs.History.{Entry, History, on, begun_in, last_minute, setting_in, started_in, readings_since, differences_in, pending_in, function_in, tally_in, judged_on, weeks_over, week_calls, calls_in, oldest, first_call, facts_in, refusal_of}
 use Rattle.records.specs.State.{no_pair, no_pairs, initial_of, facts_of, chart_after, judged_at, running_at, raised_of, applied_to}
 use Rattle.records.specs.WeekLaws.{Ordered, tally_step}
-use Rattle.records.specs.Summary.{Taken, reading_of, readings_since, chart_in, padded, demand_of, Place, entry_at, summary_of}
+use Rattle.records.specs.Summary.{Taken, reading_of, chart_in, padded, demand_of, Place, entry_at, summary_of}
 use Rattle.records.specs.declared.state.Waiting.{Waiting}
 
 -- ---- what acceptance tells of the record

@@ -1,16 +1,16 @@
--- Paper 02, C-13: what the records say whatever the editions of their blocks are: the setting, differences and alarms, the pairs
--- that wait, the function in force, how many of a week's values count, and, of a next record with its own edition, which row
--- refuses it and whether it is a value outside. Not among these are adjustments, the number of values outside, and what follows
--- from that number: weeks over 5 %, calls, usable. They go by the editions of the records behind them.
-use Rattle.std.specs.Prelude.{◌≡◌, refl, Bool, true, false, List, [], ◌∷◌, ◌++◌, map, ℕ, ◌+◌, if◌then◌else◌, Some}
+-- Paper 02, C-13: what the records say whatever the editions of their blocks are: the setting, differences and alarms,
+-- the pairs that wait, the function in force, how many of a week's values count, and, of a next record with its own
+-- edition, which row refuses it and whether it is a value outside. Not among these are adjustments, the number of
+-- values outside, and what follows from that number: weeks over 5 %, calls, usable. They go by the editions of the
+-- records behind them.
+use Rattle.std.specs.Prelude.{◌≡◌, refl, Bool, true, false, List, [], ◌∷◌, ◌++◌, map, ℕ, ◌+◌, if◌then◌else◌}
 use Rattle.std.proofs.Common.{sym, ap, ◌∙◌}
 use Rattle.charts.specs.Runs.{Alarm}
 use Rattle.records.specs.Lists.{since, those, any, those_since}
-use Rattle.records.specs.Record.{Record, setting_of, difference_of, waiting_of, function_of}
-use Rattle.records.specs.Kinds.{Point, at_zero, at_span, reads, resets, sets, is_pair, empties, comes_into_force, starts_period, no_values, one_more, Calibration}
+use Rattle.records.specs.Record.{Record, difference_of, waiting_of}
+use Rattle.records.specs.Kinds.{Point, at_zero, at_span, reads, resets, is_pair, empties, starts_period, setting_after, calibration_after, no_values, one_more}
 use Rattle.records.specs.Table.{Facts, refusal_in}
 use Rattle.records.specs.History.{Entry, History, on, setting_in, last_minute, started_in, differences_in, AlarmStands, pending_in, function_in, value_of_week, outside_when, tally_in, begun_in, facts_in, refusal_of}
-use Rattle.records.specs.declared.state.Setting.{Setting}
 use Rattle.records.specs.declared.state.Waiting.{Waiting}
 use Rattle.records.specs.declared.state.Tally.{Tally}
 
@@ -18,14 +18,16 @@ use Rattle.records.specs.declared.state.Tally.{Tally}
 abbrev pub without_editions : History → List Record
 without_editions h = map (λ (r : Entry). r.bytes) h
 
--- what two histories have in common: the setting and the last minute, the differences and the alarms at each chart, the pairs that wait, the function in
--- force and how many values of each week count; and of a next record, by which row it is refused and whether it is a value outside
+-- what two histories have in common: the setting and the last minute, the differences and the alarms at each chart, the
+-- pairs that wait, the function in force and how many values of each week count; and of a next record, by which row it
+-- is refused and whether it is a value outside
 pub record Alike (h k : History) : Type 0 where
   pub setting : setting_in h ≡ setting_in k
   pub minute : last_minute h ≡ last_minute k
   pub started : (c : Point) → started_in c h ≡ started_in c k
   pub differences : (c : Point) → differences_in c h ≡ differences_in c k
-  pub alarms : (c : Point) (a : Alarm) → (AlarmStands c a h → AlarmStands c a k) × (AlarmStands c a k → AlarmStands c a h)
+  pub alarms : (c : Point) (a : Alarm)
+      → (AlarmStands c a h → AlarmStands c a k) × (AlarmStands c a k → AlarmStands c a h)
   pub pending : pending_in h ≡ pending_in k
   pub function : function_in h ≡ function_in k
   pub total : (w : ℕ) → (tally_in w h).total ≡ (tally_in w k).total
@@ -43,7 +45,7 @@ plain h = entries (without_editions h)
 plain_setting : (h : History) → setting_in h ≡ setting_in (plain h)
 unfolding setting_in
 plain_setting [] = refl
-plain_setting (r ∷ h) = ap (λ (s : Setting). if sets r.bytes then setting_of r.bytes else s) (plain_setting h)
+plain_setting (r ∷ h) = ap (setting_after r.bytes) (plain_setting h)
 
 plain_minute : (h : History) → last_minute h ≡ last_minute (plain h)
 plain_minute [] = refl
@@ -72,7 +74,8 @@ plain_those f p q (r ∷ h) =
     new = those (on p) (since (on q) (plain h))
 
     go : (a b : Bool) → map (on f) old ≡ map (on f) new
-        → map (on f) (if a then [] else (if b then r ∷ old else old)) ≡ map (on f) (if a then [] else (if b then s ∷ new else new))
+        → map (on f) (if a then [] else (if b then r ∷ old else old))
+        ≡ map (on f) (if a then [] else (if b then s ∷ new else new))
     go true b e = refl
     go false true e = ap (λ l. f r.bytes ∷ l) e
     go false false e = e
@@ -85,13 +88,14 @@ plain_pending : (h : History) → pending_in h ≡ pending_in (plain h)
 unfolding pending_in
 plain_pending [] = refl
 plain_pending (r ∷ h) =
-    ap (λ (ws : List Waiting). if empties r.bytes then [] else (if is_pair r.bytes then ws ++ (waiting_of r.bytes ∷ []) else ws))
+    ap (λ (ws : List Waiting).
+    if empties r.bytes then [] else (if is_pair r.bytes then ws ++ (waiting_of r.bytes ∷ []) else ws))
     (plain_pending h)
 
 plain_function : (h : History) → function_in h ≡ function_in (plain h)
 unfolding function_in
 plain_function [] = refl
-plain_function (r ∷ h) = ap (λ (k : Calibration). if comes_into_force r.bytes then Some (function_of r.bytes) else k) (plain_function h)
+plain_function (r ∷ h) = ap (calibration_after r.bytes) (plain_function h)
 
 plain_begun : (h : History) → begun_in h ≡ begun_in (plain h)
 plain_begun [] = refl

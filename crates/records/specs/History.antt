@@ -1,13 +1,12 @@
--- What the accepted records say, and nothing else: paper 01, 'Charts', 'Calibration', 'Weeks and calls (6.4.4)' and 'Usable',
--- paper 02, C-11 to C-13, and the mission's statement 3.
--- A history is the list of accepted records, each with the edition of its block, newest first, so that "since the last" is
--- plain recursion.
+-- What the accepted records say, and nothing else: paper 01, 'Charts', 'Calibration', 'Weeks and calls (6.4.4)' and
+-- 'Usable', paper 02, C-11 to C-13, and the mission's statement 3. A history is the list of accepted records, each with
+-- the edition of its block, newest first, so that "since the last" is plain recursion.
 use Rattle.std.specs.Prelude.{◌≡◌, Bool, true, false, ◌&&◌, List, [], ◌∷◌, ◌++◌, map, ℕ, suc, ◌-◌, ◌≤◌, ltb, eqb, ℤ, length, if◌then◌else◌, None, Some}
 use Rattle.std.proofs.Math.Option.{Option, none, some, get_or}
 use Rattle.charts.specs.Runs.{Alarm, Stands}
 use Rattle.records.specs.Lists.{since, those, any}
-use Rattle.records.specs.Record.{Record, minute, setting_of, difference_of, waiting_of, function_of}
-use Rattle.records.specs.Kinds.{Point, no_setting, at_zero, at_span, reads, resets, sets, is_pair, fails, empties, comes_into_force, clears_calls, starts_period, counts, deviation_of, week_of, outside_by, no_values, one_more, exceeds, raises_call, Calibration}
+use Rattle.records.specs.Record.{Record, minute, difference_of, waiting_of}
+use Rattle.records.specs.Kinds.{Point, no_setting, at_zero, at_span, reads, resets, is_pair, fails, empties, clears_calls, starts_period, counts, setting_after, calibration_after, deviation_of, week_of, outside_by, no_values, one_more, exceeds, raises_call, Calibration}
 use Rattle.records.specs.Table.{Facts, refusal_in}
 use Rattle.records.specs.declared.state.Setting.{Setting}
 use Rattle.records.specs.declared.state.Waiting.{Waiting}
@@ -29,7 +28,7 @@ on f e = f e.bytes
 
 unfoldable pub setting_in : History → Setting
 setting_in [] = no_setting
-setting_in (r ∷ h) = if sets r.bytes then setting_of r.bytes else setting_in h
+setting_in (r ∷ h) = setting_after r.bytes (setting_in h)
 
 -- the last record's minute, 0 before the first
 abbrev pub last_minute : History → ℕ
@@ -41,9 +40,13 @@ last_minute (r ∷ h) = minute r.bytes
 abbrev pub started_in : Point → History → Bool
 started_in c h = any (on (resets c)) h
 
--- the differences of a chart's readings after its last reset, newest first; with no reset there are none
+-- the readings of a chart after its last reset, newest first
+abbrev pub readings_since : Point → History → List Entry
+readings_since c h = those (on (reads c)) (since (on (resets c)) h)
+
+-- their differences; with no reset there are none
 unfoldable pub differences_in : Point → History → List ℤ
-differences_in c h = if started_in c h then map (on difference_of) (those (on (reads c)) (since (on (resets c)) h)) else []
+differences_in c h = if started_in c h then map (on difference_of) (readings_since c h) else []
 
 -- an alarm of a chart: some run of its readings says so
 abbrev pub AlarmStands : Point → Alarm → History → Type 0
@@ -62,7 +65,7 @@ pending_in (r ∷ h) =
 -- the newest passed calibration, with its stored figures
 unfoldable pub function_in : History → Calibration
 function_in [] = None
-function_in (r ∷ h) = if comes_into_force r.bytes then Some (function_of r.bytes) else function_in h
+function_in (r ∷ h) = calibration_after r.bytes (function_in h)
 
 -- ---- weeks
 
@@ -73,8 +76,8 @@ own_week r = week_of (minute r.bytes)
 abbrev pub value_of_week : ℕ → Entry → Bool
 value_of_week w r = counts r.bytes && eqb (own_week r) w
 
--- It was outside when it was applied. It is judged by its own block's edition, against the top in force; a week's tally may have
--- values of both editions (paper 02, C-13).
+-- It was outside when it was applied. It is judged by its own block's edition, against the top in force; a week's tally
+-- may have values of both editions (paper 02, C-13).
 abbrev pub outside_when : History → Entry → Bool
 outside_when h r = outside_by r.edition (function_in h) (setting_in h) r.bytes
 
@@ -93,8 +96,8 @@ last_week h = week_of (last_minute h)
 abbrev pub turns : History → Entry → Bool
 turns h r = ltb (last_week h) (own_week r)
 
--- THE WEEK THAT IS JUDGED on r, before r is applied: that of the last record, within its period, where r is of a later week. With
--- no values no week is judged (paper 02, C-11).
+-- THE WEEK THAT IS JUDGED on r, before r is applied: that of the last record, within its period, where r is of a later
+-- week. With no values no week is judged (paper 02, C-11).
 unfoldable pub judged_on : History → Entry → Tally
 judged_on h r = if turns h r then tally_in (last_week h) h else no_values
 
@@ -112,13 +115,17 @@ weeks_over (r ∷ h) =
 unfoldable pub week_calls : History → Entry → Bool
 week_calls h r = raises_call (judged_on h r) (weeks_over h)
 
--- the minutes of the calls since they were last cleared, newest first: of a record's own two, its failed closing is newer than
--- the week judged on it
+-- a minute, where there is a call at it
+abbrev called : Bool → ℕ → List ℕ
+called b m = if b then m ∷ [] else []
+
+-- the minutes of the calls since they were last cleared, newest first: of a record's own two, its failed closing is
+-- newer than the week judged on it
 unfoldable pub calls_in : History → List ℕ
 calls_in [] = []
 calls_in (r ∷ h) =
     if clears_calls r.bytes then []
-    else (if fails r.bytes then minute r.bytes ∷ [] else []) ++ (if week_calls h r then minute r.bytes ∷ [] else []) ++ calls_in h
+    else called (fails r.bytes) (minute r.bytes) ++ called (week_calls h r) (minute r.bytes) ++ calls_in h
 
 -- the last of a list
 abbrev pub oldest : List ℕ → Option ℕ
@@ -139,8 +146,8 @@ abbrev pub Recent : ℕ → ℕ → Option ℕ → Type 0
 Recent limit m none = Unit {0}
 Recent limit m (some from) = m - from ≤ limit
 
--- No alarm; a calibration was passed, at most 2,629,440 minutes before the last record; and if there were calls since then, the
--- first of them came at most 263,520 minutes before it.
+-- No alarm; a calibration was passed, at most 2,629,440 minutes before the last record; and if there were calls since
+-- then, the first of them came at most 263,520 minutes before it.
 pub record Usable (h : History) : Type 0 where
   pub quiet : (c : Point) (a : Alarm) → ¬ AlarmStands c a h
   pub from : ℕ

@@ -1,10 +1,11 @@
--- Paper 01, 'Records', 'Weeks and calls (6.4.4)', and paper 02, C-11 and C-12: which records do what, and when a value is outside.
+-- Paper 01, 'Records', 'Weeks and calls (6.4.4)', and paper 02, C-11 and C-12: which records do what, and when a value
+-- is outside.
 use Rattle.std.specs.Prelude.{Option, Bool, false, not, ◌&&◌, ◌||◌, ℕ, ◌+◌, ◌*◌, ◌/◌, eqb, ltb, pos, if◌then◌else◌, None, Some}
 use Rattle.std.specs.Int.Signed.{lt_z}
 use Rattle.calibration.specs.Calibration.{value_of}
 use Rattle.calibration.specs.declared.line.Line.{Line}
 use Rattle.calibration.specs.declared.conditions.Standard.{Standard}
-use Rattle.records.specs.Record.{Record, kind, mark, signal_of, value_conditions}
+use Rattle.records.specs.Record.{Record, kind, mark, setting_of, function_of, signal_of, value_conditions}
 use Rattle.records.specs.declared.state.Setting.{Setting}
 use Rattle.records.specs.declared.state.Function.{Function}
 use Rattle.records.specs.declared.state.Tally.{Tally}
@@ -28,6 +29,10 @@ abbrev pub number : Point → ℕ
 number at_zero = 0
 number at_span = 1
 
+-- the chart that a mark names
+abbrev pub point_of : ℕ → Point
+point_of m = if eqb m 0 then at_zero else at_span
+
 unfoldable pub reads : Point → Record → Bool
 reads c r = eqb (kind r) 2 && eqb (mark r) (number c)
 
@@ -45,35 +50,44 @@ unfoldable pub calibrates : Record → Bool
 calibrates r = eqb (kind r) 5 && eqb (mark r) 1
 
 -- a closing that was passed, calibration or annual
-unfoldable pub passes : Record → Bool
-passes r = calibrates r || eqb (kind r) 6 && eqb (mark r) 3
+unfoldable pub is_passed : Record → Bool
+is_passed r = calibrates r || eqb (kind r) 6 && eqb (mark r) 3
 
 -- a closing that was not: it calls for a new calibration
 unfoldable pub fails : Record → Bool
-fails r = (eqb (kind r) 5 || eqb (kind r) 6) && not (passes r)
+fails r = (eqb (kind r) 5 || eqb (kind r) 6) && not (is_passed r)
 
--- ---- what an accepted record does beside what it stores: an effect a line, by the records that have it. Every 'since the
--- last' hangs on one of these, that of a chart on `resets`.
+-- ---- what an accepted record does beside what it stores
+
+-- An effect a line, by the records that have it. Every 'since the last' hangs on one of these, that of a chart on
+-- `resets`.
 
 -- no pair waits after it: closings and the drop
 unfoldable pub empties : Record → Bool
 empties r = eqb (kind r) 5 || (eqb (kind r) 6 || eqb (kind r) 8)
 
 -- its function comes into force
-unfoldable pub comes_into_force : Record → Bool
+abbrev pub comes_into_force : Record → Bool
 comes_into_force r = calibrates r
 
 -- the calls up to it are cleared
-unfoldable pub clears_calls : Record → Bool
+abbrev pub clears_calls : Record → Bool
 clears_calls r = calibrates r
 
 -- a period starts after it (paper 01: a stretch), with no value and no week
-unfoldable pub starts_period : Record → Bool
-starts_period r = passes r
+abbrev pub starts_period : Record → Bool
+starts_period r = is_passed r
 
 -- it is a value that counts in its week: its mark is 0, while 1 tells of a start-up and the like (paper 02, C-11)
 unfoldable pub counts : Record → Bool
 counts r = eqb (kind r) 7 && eqb (mark r) 0
+
+-- the setting after it, and the function in force
+abbrev pub setting_after : Record → Setting → Setting
+setting_after r s = if sets r then setting_of r else s
+
+abbrev pub calibration_after : Record → Calibration → Calibration
+calibration_after r k = if comes_into_force r then Some (function_of r) else k
 
 -- ---- times and figures
 
@@ -85,7 +99,12 @@ day_of m = m / 1440
 
 -- before the setting
 unfoldable pub no_setting : Setting
-no_setting = record { requirements = record { limit = pos 0; uncertainty = pos 0; oxygen = pos 0 }; zero = 0; span = 0; response = 0 }
+no_setting = record {
+  requirements = record { limit = pos 0; uncertainty = pos 0; oxygen = pos 0 };
+  zero = 0;
+  span = 0;
+  response = 0;
+}
 
 -- s of a chart
 abbrev pub deviation_of : Point → Setting → ℕ
@@ -101,7 +120,8 @@ unfoldable pub line_of : Function → Line
 line_of f = record { slope = f.slope; intercept = f.intercept }
 
 -- A value lies outside the range of the function in force: its c, rounded by the edition of the value's own block, is
--- negative or exceeds the top as it is stored. Without a function row 19 stops it, so that the first line is never asked.
+-- negative or exceeds the top as it is stored. Without a function row 19 stops it, so that the first line is never
+-- asked.
 unfoldable pub outside_by : ℕ → Calibration → Setting → Record → Bool
 outside_by edition None s r = false
 outside_by edition (Some f) s r =
@@ -121,7 +141,7 @@ one_more outside t = record { total = t.total + 1; outside = if outside then t.o
 abbrev pub exceeds : ℕ → Tally → Bool
 exceeds percent t = ltb (percent * t.total) (100 * t.outside)
 
--- A judged week raises a call: over 40 percent, or over 5 percent as the sixth such week of its period. Paper 02, C-11, has a
--- week not judged where none of its values counts: with no values no percentage is exceeded.
+-- A judged week raises a call: over 40 percent, or over 5 percent as the sixth such week of its period. Paper 02, C-11,
+-- has a week not judged where none of its values counts: with no values no percentage is exceeded.
 unfoldable pub raises_call : Tally → ℕ → Bool
 raises_call t over = exceeds 40 t || exceeds 5 t && eqb over 5

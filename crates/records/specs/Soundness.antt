@@ -1,5 +1,6 @@
--- The range in which a state's arithmetic fits its fields: the code's own, with no sentence of paper 01. Every state that calls leave is in it,
--- and others may be. The edition may be any number, since none overflows anything (paper 02, C-12). `most` bounds what is counted record by record: a state that has taken n blocks is sound for 12·n.
+-- The range in which a state's arithmetic fits its fields: the code's own, with no sentence of paper 01. Every state
+-- that calls leave is in it, and others may be. The edition may be any number, since none overflows anything (paper 02,
+-- C-12). `most` bounds what is counted record by record: a state that has taken n blocks is sound for 12·n.
 use Rattle.std.specs.Prelude.{Bool, true, false, ◌&&◌, List, [], ◌∷◌, ℕ, ◌≤◌, leb, take, None, Some}
 use Rattle.charts.specs.Tests.{Answers, answers_le, answers_and, answers_as}
 use Rattle.charts.specs.ChartSoundness.{ChartSound, chart_sound_of, chart_sound_answers}
@@ -28,7 +29,9 @@ pub setting_answers : (s : Setting) → Answers (setting_sound_of s) (SettingSou
 unfolding setting_sound_of
 setting_answers s =
     answers_as
-    (answers_and (answers_and (requirements_answers s.requirements) (answers_le s.zero 10000)) (answers_and (answers_le s.span 10000) (answers_le s.response 60)))
+    (answers_and
+    (answers_and (requirements_answers s.requirements) (answers_le s.zero 10000))
+    (answers_and (answers_le s.span 10000) (answers_le s.response 60)))
     (λ p. record { requirements = p.0.0; zero = p.0.1; span = p.1.0; response = p.1.1 })
     (λ r. ((r.requirements, r.zero), (r.span, r.response)))
 
@@ -44,7 +47,8 @@ waiting_sound_of w = (leb w.start minute_limit && leb w.end minute_limit) && pai
 pub waiting_answers : (w : Waiting) → Answers (waiting_sound_of w) (WaitingSound w)
 unfolding waiting_sound_of
 waiting_answers w =
-    answers_as (answers_and (answers_and (answers_le w.start minute_limit) (answers_le w.end minute_limit)) (pair_answers w.pair))
+    answers_as
+    (answers_and (answers_and (answers_le w.start minute_limit) (answers_le w.end minute_limit)) (pair_answers w.pair))
     (λ p. record { start = p.0.0; end = p.0.1; pair = p.1 })
     (λ r. ((r.start, r.end), r.pair))
 
@@ -118,9 +122,15 @@ sound_answers most st =
     answers_as
     (answers_and
     (answers_and
-    (answers_and (answers_and (answers_le st.minute minute_limit) (begun_answers st.begun st.setting)) (answers_and (chart_sound_answers st.zero) (chart_sound_answers st.span)))
-    (answers_and (answers_and (answers_le st.pending 30) (all_answers (take st.pending st.pairs))) (calibration_answers st.calibration)))
-    (answers_and (answers_and (answers_le st.tally.total most) (answers_le st.tally.outside most)) (answers_le st.over most)))
+    (answers_and
+    (answers_and (answers_le st.minute minute_limit) (begun_answers st.begun st.setting))
+    (answers_and (chart_sound_answers st.zero) (chart_sound_answers st.span)))
+    (answers_and
+    (answers_and (answers_le st.pending 30) (all_answers (take st.pending st.pairs)))
+    (calibration_answers st.calibration)))
+    (answers_and
+    (answers_and (answers_le st.tally.total most) (answers_le st.tally.outside most))
+    (answers_le st.over most)))
     (λ p. record {
       minute = p.0.0.0.0;
       setting = p.0.0.0.1;
@@ -133,4 +143,7 @@ sound_answers most st =
       outside = p.1.0.1;
       over = p.1.1;
     })
-    (λ s. ((((s.minute, s.setting), (s.zero, s.span)), ((s.pending, s.pairs), s.calibration)), ((s.total, s.outside), s.over)))
+    (λ s. (
+      (((s.minute, s.setting), (s.zero, s.span)), ((s.pending, s.pairs), s.calibration)),
+      ((s.total, s.outside), s.over),
+    ))

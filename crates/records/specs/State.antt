@@ -1,12 +1,13 @@
--- The state (paper 01: the standing): its beginning, its refusal of a record, and what an accepted record makes of it. Its edition (paper 02, C-12) is
--- that of the block in which the next record stands, and between blocks that of the last one: 0 before the first, which rounds as 1 does.
+-- The state (paper 01: the standing): its beginning, its refusal of a record, and what an accepted record makes of it.
+-- Its edition (paper 02, C-12) is that of the block in which the next record stands, and between blocks that of the
+-- last one: 0 before the first, which rounds as 1 does.
 use Rattle.std.specs.Prelude.{Bool, true, false, ◌||◌, List, ℕ, ◌+◌, eqb, ltb, pos, take, set, replicate, if◌then◌else◌, None, Some, Result, Ok, Err}
 use Rattle.refusals.specs.Rows.{number_of}
 use Rattle.refusals.specs.declared.Refusal.{Refusal}
 use Rattle.charts.specs.Charts.{blank, reset_of, applied_of}
 use Rattle.charts.specs.declared.Chart.{Chart}
-use Rattle.records.specs.Record.{Record, minute, setting_of, difference_of, waiting_of, function_of}
-use Rattle.records.specs.Kinds.{Point, no_setting, at_zero, at_span, reads, resets, sets, is_pair, fails, empties, comes_into_force, clears_calls, starts_period, counts, deviation_of, week_of, outside_by, no_values, one_more, exceeds, raises_call, Demand}
+use Rattle.records.specs.Record.{Record, minute, difference_of, waiting_of}
+use Rattle.records.specs.Kinds.{Point, no_setting, at_zero, at_span, reads, resets, is_pair, fails, empties, clears_calls, starts_period, counts, setting_after, calibration_after, deviation_of, week_of, outside_by, no_values, one_more, exceeds, raises_call, Demand}
 use Rattle.records.specs.Table.{Facts, refusal_in}
 use Rattle.records.specs.declared.state.Setting.{Setting}
 use Rattle.records.specs.declared.state.Waiting.{Waiting}
@@ -18,7 +19,11 @@ unfoldable pub no_pair : Waiting
 no_pair = record {
   start = 0;
   end = 0;
-  pair = record { signal = pos 0; srm = record { 0 = pos 0 }; conditions = record { temperature = pos 0; pressure = pos 0; water = pos 0; oxygen = pos 0 } };
+  pair = record {
+    signal = pos 0;
+    srm = record { 0 = pos 0 };
+    conditions = record { temperature = pos 0; pressure = pos 0; water = pos 0; oxygen = pos 0 };
+  };
 }
 
 unfoldable pub no_pairs : List Waiting
@@ -61,6 +66,11 @@ facts_of st = record {
 
 -- ---- an accepted record
 
+-- a chart of a state
+abbrev pub chart_of : Point → State → Chart
+chart_of at_zero st = st.zero
+chart_of at_span st = st.span
+
 -- what a record of a block of some edition does to a chart
 unfoldable pub chart_after : ℕ → Point → Setting → Record → Chart → Chart
 chart_after edition c s r k =
@@ -72,7 +82,8 @@ chart_after edition c s r k =
 abbrev pub turns_from : ℕ → ℕ → Bool
 turns_from before after = ltb (week_of before) (week_of after)
 
--- THE WEEK THAT IS JUDGED on a record of minute m: that of the last one, where m is of a later week. With no values no week is judged.
+-- THE WEEK THAT IS JUDGED on a record of minute m: that of the last one, where m is of a later week. With no values no
+-- week is judged.
 unfoldable pub judged_at : State → ℕ → Tally
 judged_at st m = if turns_from st.minute m then st.tally else no_values
 
@@ -85,7 +96,8 @@ unfoldable pub raised_of : Demand → ℕ → Demand
 raised_of None m = Some m
 raised_of (Some first) m = Some first
 
--- The state after an accepted record: the week is judged first where the record is of a later one, then the record is applied.
+-- The state after an accepted record: the week is judged first where the record is of a later one, then the record is
+-- applied.
 unfoldable pub applied_to : State → Record → State
 applied_to st r =
     let judged : Tally = judged_at st (minute r) in
@@ -95,12 +107,12 @@ applied_to st r =
       next = st.next;
       begun = true;
       minute = minute r;
-      setting = if sets r then setting_of r else st.setting;
+      setting = setting_after r st.setting;
       zero = chart_after st.edition at_zero st.setting r st.zero;
       span = chart_after st.edition at_span st.setting r st.span;
       pending = if empties r then 0 else (if is_pair r then st.pending + 1 else st.pending);
       pairs = if empties r then no_pairs else (if is_pair r then set st.pairs st.pending (waiting_of r) else st.pairs);
-      calibration = if comes_into_force r then Some (function_of r) else st.calibration;
+      calibration = calibration_after r st.calibration;
       tally =
           if starts_period r then no_values
           else (if counts r then one_more (outside_by st.edition st.calibration st.setting r) running
@@ -118,7 +130,8 @@ pub record Stepped : Type 0 where
   pub refusal : ℕ
   pub state : State
 
--- an answer to a record as such an outcome: with a refusal the state is as it was; no two answers have one outcome (proofs/OutcomeLaws)
+-- an answer to a record as such an outcome: with a refusal the state is as it was; no two answers have one outcome
+-- (proofs/OutcomeLaws)
 abbrev pub stepped : State → Result State Refusal → Stepped
 stepped st (Ok after) = record { refusal = 0; state = after }
 stepped st (Err e) = record { refusal = number_of e; state = st }

@@ -3,9 +3,8 @@ use Rattle.std.specs.Prelude.{true, ℕ, ◌+◌, eqb, set, if◌then◌else◌,
 use Rattle.charts.specs.Charts.{reset_of, applied_of}
 use Rattle.charts.specs.declared.Chart.{Chart}
 use Rattle.records.specs.Record.{Record, mark, minute, difference_of, function_of}
-use Rattle.records.specs.Kinds.{counts, outside_by, no_values, one_more, exceeds, raises_call}
-use Rattle.records.specs.State.{no_pairs, judged_at, running_at, raised_of}
-use Rattle.records.specs.declared.state.Setting.{Setting}
+use Rattle.records.specs.Kinds.{Point, at_zero, at_span, point_of, deviation_of, counts, outside_by, no_values, one_more, exceeds, raises_call}
+use Rattle.records.specs.State.{chart_of, no_pairs, judged_at, running_at, raised_of}
 use Rattle.records.specs.declared.state.Waiting.{Waiting}
 use Rattle.records.specs.declared.state.Function.{Function}
 use Rattle.records.specs.declared.state.State.{State}
@@ -44,26 +43,21 @@ with_value st r =
 
 -- ---- the kinds that go by their mark
 
--- the chart of a mark, 0 for zero and 1 for span, its standard deviation, and the state with that chart changed
-abbrev pub chart_at : State → ℕ → Chart
-chart_at st m = if eqb m 0 then st.zero else st.span
-
-abbrev pub deviation_at : Setting → ℕ → ℕ
-deviation_at s m = if eqb m 0 then s.zero else s.span
-
-abbrev pub with_chart : State → ℕ → Chart → State
-with_chart st m c = if eqb m 0 then record st { zero = c } else record st { span = c }
+-- the state with a chart changed
+abbrev pub with_chart : Point → State → Chart → State
+with_chart at_zero st k = record st { zero = k }
+with_chart at_span st k = record st { span = k }
 
 -- a reading, and a reset, of the chart of its mark
 unfoldable pub with_reading : State → Record → State
 with_reading st r =
-    if eqb (mark r) 0 then record st { zero = applied_of st.zero st.edition st.setting.zero (difference_of r) }
-    else record st { span = applied_of st.span st.edition st.setting.span (difference_of r) }
+    let c : Point = point_of (mark r) in
+    with_chart c st (applied_of (chart_of c st) st.edition (deviation_of c st.setting) (difference_of r))
 
 unfoldable pub with_reset : State → Record → State
 with_reset st r =
-    if eqb (mark r) 0 then record st { zero = reset_of st.zero }
-    else record st { span = reset_of st.span }
+    let c : Point = point_of (mark r) in
+    with_chart c st (reset_of (chart_of c st))
 
 -- a failed closing of either kind
 unfoldable pub with_failure : State → ℕ → State

@@ -4,10 +4,9 @@ use Rattle.std.proofs.Math.Option.{Option, none, some}
 use Rattle.charts.specs.Charts.{blank, reset_of}
 use Rattle.charts.specs.Readings.{Reading, after_readings}
 use Rattle.charts.specs.declared.Chart.{Chart}
-use Rattle.records.specs.Lists.{since, those}
 use Rattle.records.specs.Record.{Record, difference_of}
-use Rattle.records.specs.Kinds.{Point, at_zero, at_span, reads, resets, deviation_of, Demand}
-use Rattle.records.specs.History.{Entry, History, on, begun_in, last_minute, setting_in, started_in, pending_in, function_in, last_week, tally_in, weeks_over, first_call, refusal_of}
+use Rattle.records.specs.Kinds.{Point, at_zero, at_span, deviation_of, Demand}
+use Rattle.records.specs.History.{Entry, History, begun_in, last_minute, setting_in, started_in, readings_since, pending_in, function_in, last_week, tally_in, weeks_over, first_call, refusal_of}
 use Rattle.records.specs.State.{no_pair}
 use Rattle.records.specs.declared.state.Waiting.{Waiting}
 use Rattle.records.specs.declared.state.State.{State}
@@ -21,13 +20,12 @@ Taken (r ∷ h) = (refusal_of h r ≡ 0) × Taken h
 abbrev pub reading_of : Entry → Reading
 reading_of e = record { edition = e.edition; difference = difference_of e.bytes }
 
--- the readings of a chart after its last reset
-abbrev pub readings_since : Point → History → List Entry
-readings_since c h = those (on (reads c)) (since (on (resets c)) h)
-
 -- the chart that the readings since the reset lead to
 unfoldable pub chart_in : Point → History → Chart
-chart_in c h = if started_in c h then after_readings (deviation_of c (setting_in h)) (reset_of blank) (map reading_of (readings_since c h)) else blank
+chart_in c h =
+    let s : ℕ = deviation_of c (setting_in h) in
+    if started_in c h then after_readings s (reset_of blank) (map reading_of (readings_since c h))
+    else blank
 
 -- thirty places, the pairs first and nothing in the rest
 abbrev pub padded : List Waiting → List Waiting
@@ -37,8 +35,8 @@ abbrev pub demand_of : Option ℕ → Demand
 demand_of none = None
 demand_of (some m) = Some m
 
--- What no record says: the analyser, the number of the next block, and the edition of the block that is open, or between blocks
--- that of the last one, since a block may be open with no record yet (paper 02, C-12).
+-- What no record says: the analyser, the number of the next block, and the edition of the block that is open, or
+-- between blocks that of the last one, since a block may be open with no record yet (paper 02, C-12).
 pub record Place : Type 0 where
   pub analyser : ℕ
   pub next : ℕ

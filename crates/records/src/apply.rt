@@ -3,12 +3,12 @@
 ghost use Rattle.std.specs.Prelude.{◌≡◌, ◌≢◌, true, false, ◌+◌, ◌<◌, ◌≤◌, if◌then◌else◌};
 ghost use Rattle.charts.specs.ChartSoundness.{ChartSound};
 ghost use Rattle.records.specs.Record.{kind, mark, minute, reading_ranged, value_ranged};
-ghost use Rattle.records.specs.Kinds.{exceeds as Kinds·exceeds, outside_by, raises_call as Kinds·raises_call};
+ghost use Rattle.records.specs.Kinds.{deviation_of, exceeds as Kinds·exceeds, outside_by, point_of, raises_call as Kinds·raises_call};
 ghost use Rattle.records.specs.Soundness.{CalibrationSound, Fitting, SettingSound};
 ghost use Rattle.records.specs.Table.{reading_refusal, refusal_in};
-ghost use Rattle.records.specs.State.{applied_to, facts_of, initial_of, judged_at, no_pair, raised_of, running_at};
+ghost use Rattle.records.specs.State.{applied_to, chart_of, facts_of, initial_of, judged_at, no_pair, raised_of, running_at};
 ghost use Rattle.records.specs.InPlace.{InWeek, in_week_of};
-ghost use Rattle.records.specs.StateParts.{chart_at, deviation_at, emptied as StateParts·emptied, judged_of, with_chart, with_failure, with_function, with_pair, with_period, with_reading, with_reset, with_value};
+ghost use Rattle.records.specs.StateParts.{emptied as StateParts·emptied, judged_of, with_chart, with_failure, with_function, with_pair, with_period, with_reading, with_reset, with_value};
 
 use crate::state::{Function, Setting, State, Tally, Waiting};
 use crate::{bytes, fields};
@@ -216,8 +216,8 @@ fn count_value(st: &mut State, r: &[u8; 40])
 // the reader slower by 9 percent on values and readings. The mark stays a byte, as the kind does in `apply`.
 #[inline(always)]
 fn change_chart<F: FnOnce(Chart, u16) -> Chart>(st: &mut State, mark: u8, change: F)
-    requires { F.pre change (chart_at st.old mark) (deviation_at st.old.setting mark) }
-    ensures { (after : Chart) × F.post change (chart_at st.old mark) (deviation_at st.old.setting mark) after × (st.new ≡ with_chart st.old mark after) }
+    requires { F.pre change (chart_of (point_of mark) st.old) (deviation_of (point_of mark) st.old.setting) }
+    ensures { (after : Chart) × F.post change (chart_of (point_of mark) st.old) (deviation_of (point_of mark) st.old.setting) after × (st.new ≡ with_chart (point_of mark) st.old after) }
 {
     if mark == 0 {
         st.zero = change(st.zero, st.setting.zero);

@@ -8,8 +8,10 @@ use borrow.Author.Rules.{rules}
 use Rattle.charts.specs.ChartSoundness.{ChartSound, DifferenceRanged}
 use Rattle.records.specs.Record.{mark, difference_of}
 use Rattle.records.specs.RecordLaws.{reading_fields}
-use Rattle.records.specs.StateParts.{chart_at}
-use Rattle.records.proofs.ApplyLaws.{chart_room, chart_sound, reading_of_mark}
+use Rattle.records.specs.Kinds.{point_of}
+use Rattle.records.specs.State.{chart_of}
+use Rattle.records.specs.StateParts.{with_reading}
+use Rattle.records.proofs.ApplyLaws.{chart_room, chart_sound}
 use Rattle.records.proofs.apply.take_reading.Goals as goal
 use Rattle.records.proofs.apply.take_reading.Goals.{After-difference_of-d}
 
@@ -21,14 +23,13 @@ unfolding mark
 change_chart-requires c =
     let st = c.args.st.now in
     let r = c.args.r.now in
-    let o : (chart_at st (mark r)).readings < 100000 = chart_room st r c.requires.1 in
-    let s : ChartSound (chart_at st (mark r)) = chart_sound st r c.requires.2 c.requires.3 in
+    let o : (chart_of (point_of (mark r)) st).readings < 100000 = chart_room st r c.requires.1 in
+    let s : ChartSound (chart_of (point_of (mark r)) st) = chart_sound st r c.requires.2 c.requires.3 in
     let d : DifferenceRanged (to_z w32 (of_z w32 c.difference_of-d.result)) = rw (back (goal.at.change_chart-requires c).After-difference_of-d) (reading_fields r c.requires.0).difference in
     search rules
 
 pub returns : goal.returns
-unfolding mark
+unfolding mark with_reading
 returns c =
     let b = back (goal.at.returns c).After-difference_of-d in
-    let m = reading_of_mark c.args.st.now c.args.r.now in
     search rules
