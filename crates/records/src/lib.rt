@@ -1,6 +1,7 @@
 #![tactic(auto)]
 
 // Records and the state that they lead to.
+pub mod answers;
 pub mod apply;
 pub mod bytes;
 pub mod checks;
