@@ -1,6 +1,4 @@
 pub mod TakeLaws
-pub mod ZeroLaws
-pub mod SignedLaws
 pub mod OutcomeLaws
 pub mod TakingLaws
 pub mod CallsLaws
@@ -11,4 +9,3 @@ pub mod EditionLaws
 pub mod RoundTrip
 pub mod ClosingLaws
 pub mod ClosingAccepted
-pub mod PlaceLaws

@@ -12,3 +12,5 @@ pub mod SoundnessLaws
 pub mod AnswersLaws
 pub mod LentListLaws
 pub mod HalvesLaws
+pub mod WritingLaws
+pub mod ReadBackLaws

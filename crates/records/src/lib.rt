@@ -12,3 +12,4 @@ pub mod ranges;
 pub mod soundness;
 pub mod state;
 pub mod step;
+pub mod writing;
