@@ -1,31 +1,31 @@
 -- A closing that is made is accepted: its bytes give back the figures that were worked out, and no row of the table refuses it.
-use Rattle.std.specs.Prelude.{◌≡◌, Bool, not, ◌&&◌, List, map, ℕ, ◌+◌, ◌-◌, ◌*◌, ◌/◌, ◌%◌, ◌≤◌, ◌<◌, T, leb, ltb, eqb, ℤ, pos, negsuc, neg_ℤ, nat_abs, length, take, if◌then◌else◌}
+use Rattle.std.specs.Prelude.{◌≡◌, Bool, not, ◌||◌, List, map, ℕ, ◌≤◌, ◌<◌, T, ltb, eqb, ℤ, pos, neg_ℤ, nat_abs, length, take, if◌then◌else◌}
 use Rattle.std.proofs.Math.Path.{refl}
-use Rattle.std.proofs.Common.{sym, ap, subst, ◌∙◌, arith, SFits, length-take}
+use Rattle.std.proofs.Common.{sym, ap, subst, ◌∙◌, arith, length-take}
 use Rattle.std.proofs.Math.Bool.{true, false}
-use borrow.Author.Tests.{eq-eqb, ne_eqb, eqb-true, eqb-false, lt-ltb, le-ltb, not-true, not-false}
+use borrow.Author.Tests.{ne_eqb, eqb-true, eqb-false, lt-ltb, le-ltb, not-true, not-false}
 use Rattle.std.proofs.lemmas.Bool.{or_parts, ltb-false}
-use Rattle.std.specs.Int.{w32, w64}
 use Rattle.std.proofs.lemmas.List.{length-map}
-use Rattle.std.specs.Int.Signed.{mag, le_z, ≤ℤ_refl}
+use Rattle.std.specs.Int.Signed.{le_z}
 use Rattle.refusals.specs.Rows.{◌when◌, ◌or◌}
 use Rattle.charts.specs.Tests.{if_yes, if_all, is_true}
-use Rattle.charts.specs.Integers.{le_le_z, abs_sfits}
+use Rattle.charts.specs.Integers.{abs_sfits}
 use Rattle.calibration.specs.Pairs.{RequirementsRanged, ZRanged, z_ranged_of, between_answers}
 use Rattle.calibration.proofs.RangeLaws.{between_fits}
 use Rattle.calibration.proofs.FitRange.{fitted_ranged}
 use Rattle.calibration.proofs.ResidualLaws.{top_bound, residuals_ranged}
 use Rattle.calibration.proofs.VerdictLaws.{count_above}
 use Rattle.calibration.specs.Calibration.{LineRanged, count_fits, divisor_of, fit_from, fit_of, flat_of, line_fits, residuals_of, slope_of, slope_ranged_of, some_beyond, sums_of, top_of}
-use Rattle.calibration.specs.Outcomes.{Fitted, Tested}
+use Rattle.calibration.specs.Outcomes.{Fitted}
 use Rattle.calibration.specs.declared.line.Line.{Line}
 use Rattle.calibration.specs.declared.pairs.Pair.{Pair}
 use Rattle.calibration.specs.declared.pairs.Requirements.{Requirements}
 use Rattle.calibration.specs.declared.conditions.Standard.{Standard}
-use Rattle.records.specs.Bytes.{le16, le32, all_zero, bytes16, bytes32}
-use Rattle.records.specs.Record.{Record, kind, mark, minute, minute_limit, signed32, signed64, field, long_field, formed_of, plain_of, mark_limit, fields_end, ranged_of, z_of}
+use Rattle.records.specs.Writing.{calibration_record, annual_record}
+use Rattle.records.proofs.ReadBackLaws.{Stored, calibration_formed, calibration_kind, calibration_minute, calibration_z, calibration_stores, annual_formed, annual_kind, annual_minute, annual_stores}
+use Rattle.records.specs.Record.{Record, kind, minute, minute_limit, formed_of, ranged_of, z_of}
 use Rattle.records.specs.Kinds.{sets}
-use Rattle.records.specs.Table.{Facts, misplaced, untimely, days_fit, pair_of_waiting, calibration_of, annual_of, pass_mark, test_mark, sameℤ, stores_fit, stores_test, calibration_refusal, annual_refusal, kind_refusal, refusal_in}
+use Rattle.records.specs.Table.{Facts, misplaced, untimely, days_fit, pair_of_waiting, calibration_of, annual_of, stores_fit, stores_test, calibration_refusal, annual_refusal, kind_refusal, refusal_in}
 use Rattle.records.proofs.TableLaws.{calibration_count}
 use Rattle.records.specs.State.{facts_of}
 use Rattle.records.specs.Soundness.{SettingSound, Sound, count_limit}
@@ -35,57 +35,8 @@ use Rattle.records.specs.declared.state.State.{State}
 use Rattle.file.specs.Calls.{opened}
 use Rattle.file.specs.Answered.{ran_of}
 use Rattle.file.specs.FitLaws.{fit_size}
-use Rattle.file.specs.Closings.{first_rows, unsigned32, unsigned64, bytes64, calibration_record, annual_record, closing_of, closing_refusal, make_of, made_bytes}
+use Rattle.file.specs.Closings.{first_rows, closing_of, closing_refusal, make_of, made_bytes}
 use Rattle.file.proofs.ClosingLaws.{first_passed, passed_begun, passed_time, passed_z, calibration_row, annual_row, calibration_bytes, annual_bytes, z_in_range, begun_setting, before_sound, bytes_made, made_passes}
-
--- ---- numbers in bytes, read back
-
-le32_of : (n : ℕ) → n < 4294967296 → le32 (bytes32 n) 0 ≡ n
-unfolding le32 le16 bytes32 bytes16
-le32_of n h = omega arith
-
-signed32_back : (z : ℤ) → mag z < 2147483648 → signed32 (unsigned32 z) ≡ z
-unfolding signed32 unsigned32
-signed32_back (pos n) h = rw (lt-ltb n 2147483648 h)
-signed32_back (negsuc n) h =
-    let past : 2147483648 ≤ 4294967295 - n = omega arith in
-    let e : 4294967295 - (4294967295 - n) ≡ n = omega arith in
-    rw (le-ltb (4294967295 - n) 2147483648 past, e)
-
-unsigned32_lt : (z : ℤ) → mag z < 2147483648 → unsigned32 z < 4294967296
-unfolding unsigned32
-unsigned32_lt (pos n) h = omega arith
-unsigned32_lt (negsuc n) h = omega arith
-
-signed64_back : (z : ℤ) → mag z < 9223372036854775808 → signed64 (unsigned64 z) ≡ z
-unfolding signed64 unsigned64
-signed64_back (pos n) h = rw (lt-ltb n 9223372036854775808 h)
-signed64_back (negsuc n) h =
-    let past : 9223372036854775808 ≤ 18446744073709551615 - n = omega arith in
-    let e : 18446744073709551615 - (18446744073709551615 - n) ≡ n = omega arith in
-    rw (le-ltb (18446744073709551615 - n) 9223372036854775808 past, e)
-
-unsigned64_lt : (z : ℤ) → mag z < 9223372036854775808 → unsigned64 z < 18446744073709551616
-unfolding unsigned64
-unsigned64_lt (pos n) h = omega arith
-unsigned64_lt (negsuc n) h = omega arith
-
-field_back : (z : ℤ) → SFits w32 z → signed32 (le32 (bytes32 (unsigned32 z)) 0) ≡ z
-field_back z f = ap signed32 (le32_of (unsigned32 z) (unsigned32_lt z (omega (arith, f.sfits)))) ∙ signed32_back z (omega (arith, f.sfits))
-
-long_back : (n : ℕ) → n < 18446744073709551616 → le32 (bytes64 n) 0 + 4294967296 * le32 (bytes64 n) 4 ≡ n
-unfolding bytes64 le32 le16 bytes32 bytes16
-long_back n h =
-    let low = le32_of (n % 4294967296) (omega arith) in
-    let high = le32_of (n / 4294967296) (omega arith) in
-    omega arith
-
-long_field_back : (z : ℤ) → SFits w64 z → signed64 (le32 (bytes64 (unsigned64 z)) 0 + 4294967296 * le32 (bytes64 (unsigned64 z)) 4) ≡ z
-long_field_back z f = ap signed64 (long_back (unsigned64 z) (unsigned64_lt z (omega (arith, f.sfits)))) ∙ signed64_back z (omega (arith, f.sfits))
-
-count_back : (n : ℕ) → n < 2147483648 → signed32 (le32 (bytes32 n) 0) ≡ pos n
-unfolding signed32
-count_back n h = ap signed32 (le32_of n (omega arith)) ∙ rw (lt-ltb n 2147483648 h)
 
 -- ---- the figures that a fit gives
 
@@ -118,13 +69,6 @@ module _ (edition : ℕ) (q : Requirements) (z : ℤ) (ps : List Pair) (Q : Requ
   fit_top =
       if_all TopSmall (not (count_fits (length ps))) _ _ (λ t. omega arith)
       (λ t. from_top (count_above (length ps) (not-false (count_fits (length ps)) (not-true (not (count_fits (length ps))) (is_true _ t)))))
-
--- what a calibration closing that is not refused stores fits its fields
-record Stored (c : Fitted) : Type 0 where
-  slope : SFits w32 c.line.slope
-  intercept : SFits w64 c.line.intercept
-  top : SFits w32 c.top.0
-  count : c.count ≤ 30
 
 abbrev Figures : Fitted → Type 0
 Figures c = c.refusal ≡ 0 → LineRanged c.line × TopSmall c
@@ -160,70 +104,6 @@ stored m st z S Q Z e =
       top = abs_sfits (omega (arith, F.1));
       count = calibration_count (facts_of st) z (waiting_few m st S);
     }
-
--- ---- the closing, read back
-
-same_refl : (z : ℤ) → sameℤ z z ≡ true
-same_refl z = rw (le_le_z (≤ℤ_refl z))
-
-module _ (c : Fitted) (m : ℕ) (z : ℤ) where
-  calibration_formed : formed_of (calibration_record c m z) ≡ true
-  unfolding formed_of plain_of kind mark mark_limit fields_end all_zero calibration_record bytes64 bytes32 bytes16
-  calibration_formed = by_mark c.passed
-    where
-      by_mark : (b : Bool) → ((leb (if b then 1 else 0) 1 && true) && true) ≡ true
-      by_mark true = refl
-      by_mark false = refl
-
-  calibration_kind : kind (calibration_record c m z) ≡ 5
-  unfolding kind calibration_record
-  calibration_kind = refl
-
-  calibration_minute : m < 4294967296 → minute (calibration_record c m z) ≡ m
-  unfolding minute le32 le16 calibration_record bytes64 bytes32 bytes16
-  calibration_minute h = le32_of m h
-
-  calibration_z : SFits w32 z → z_of (calibration_record c m z) ≡ z
-  unfolding z_of field le32 le16 calibration_record bytes64 bytes32 bytes16
-  calibration_z f = field_back z f
-
-  calibration_stores : Stored c → stores_fit c (calibration_record c m z) ≡ true
-  unfolding stores_fit field long_field le32 le16 calibration_record bytes64 bytes32 bytes16 mark
-  calibration_stores S =
-      rw (
-        field_back c.line.slope S.slope,
-        long_field_back c.line.intercept S.intercept,
-        field_back c.top.0 S.top,
-        count_back c.count (omega (arith, S.count)),
-        eq-eqb (pass_mark c) (pass_mark c) refl,
-        same_refl c.line.slope,
-        same_refl c.line.intercept,
-        same_refl c.top.0,
-        same_refl (pos c.count),
-      )
-
-module _ (t : Tested) (n m : ℕ) where
-  annual_formed : formed_of (annual_record t n m) ≡ true
-  unfolding formed_of plain_of kind mark mark_limit fields_end all_zero annual_record bytes32 bytes16
-  annual_formed = by_marks t.variability t.function
-    where
-      by_marks : (a b : Bool) → ((leb ((if a then 1 else 0) + (if b then 2 else 0)) 3 && true) && true) ≡ true
-      by_marks true true = refl
-      by_marks true false = refl
-      by_marks false true = refl
-      by_marks false false = refl
-
-  annual_kind : kind (annual_record t n m) ≡ 6
-  unfolding kind annual_record
-  annual_kind = refl
-
-  annual_minute : m < 4294967296 → minute (annual_record t n m) ≡ m
-  unfolding minute le32 le16 annual_record bytes32 bytes16
-  annual_minute h = le32_of m h
-
-  annual_stores : n ≤ 30 → stores_test t n (annual_record t n m) ≡ true
-  unfolding stores_test field le32 le16 annual_record bytes32 bytes16 mark
-  annual_stores h = rw (count_back n (omega arith), eq-eqb (test_mark t) (test_mark t) refl, same_refl (pos n))
 
 -- ---- the rows
 

@@ -1,20 +1,18 @@
--- Making a closing, part by part: its bytes, its rows, and the call.
+-- Making a closing, part by part: its rows, and the call.
 use Rattle.std.specs.Prelude.{◌≡◌, Bool, true, false, not, ◌||◌, eqb, ℤ, pos, neg_ℤ, if◌then◌else◌, None, Result, Err, IfSome}
 use Rattle.std.proofs.Math.Path.{refl, sym, ap}
 use Rattle.std.proofs.Common.{subst, ◌∙◌, arith}
-use mathlib.Core.List.{List, ◌++◌, append_assoc}
-use Prim.Native.Nat.{ℕ, ◌+◌, ◌/◌, ◌≤◌, ◌<◌}
+use mathlib.Core.List.{List}
+use Prim.Native.Nat.{ℕ, ◌/◌, ◌≤◌, ◌<◌}
 use borrow.Author.Tests.{eq-eqb, ne_eqb, not-false}
-use Rattle.std.proofs.Math.ListN.{length, replicate, length-append}
+use Rattle.std.proofs.Math.ListN.{length}
 use Rattle.refusals.specs.Rows.{number_of, ◌when◌, ◌or◌, unless_refused}
 use Rattle.refusals.proofs.RowLaws.{row_passed, rows_passed, unfit, or_next, or_stop, unless_next, unless_passed, unless_stop}
 use Rattle.refusals.specs.declared.Refusal.{Refusal}
 use Rattle.charts.specs.Tests.{holds, if_yes, if_no}
 use Rattle.calibration.specs.Pairs.{ZRanged, between_answers}
-use Rattle.calibration.specs.Outcomes.{Fitted, Tested}
-use Rattle.records.specs.Bytes.{bytes32, written}
-use Rattle.records.specs.BytesLaws.{written_more, written_whole, bytes32_length}
-use Rattle.records.specs.Table.{Facts, untimely, calibration_of, annual_of, pass_mark, test_mark}
+use Rattle.records.specs.Writing.{calibration_record, annual_record}
+use Rattle.records.specs.Table.{Facts, untimely, calibration_of, annual_of}
 use Rattle.records.specs.State.{facts_of}
 use Rattle.records.specs.Steps.{Ran}
 use Rattle.records.specs.Soundness.{SettingSound, BegunSound, Sound, Fitting}
@@ -26,136 +24,10 @@ use Rattle.file.specs.Calls.{opened, ready_of}
 use Rattle.file.specs.FitLaws.{opened_pairs, opened_ready}
 use Rattle.file.specs.FitLaws.{ready_fit, within_none, within_ran}
 use Rattle.file.proofs.CallsLaws.{records_length}
-use Rattle.file.proofs.ZeroLaws.{zeros_stay}
 use Rattle.file.specs.Answered.{PlaceOfTwelve, index_of, ran_of}
 use Rattle.file.specs.declared.Refused.{Refused}
 use Rattle.file.proofs.OutcomeLaws.{some_row}
-use Rattle.file.specs.Closings.{Made, head_of, figures_of, first_rows, z_fits, unsigned32, unsigned64, bytes64, calibration_record, annual_record, closing_of, closing_refusal, made, made_at, made_by, ran_before, making_refusal, make_of, made_bytes}
-
--- ---- the forty bytes
-
-pub bytes64_length : (n : ℕ) → length (bytes64 n) ≡ 8
-unfolding bytes64
-bytes64_length n = simp (length-append, bytes32_length)
-
-pub head_length : (kind mark minute : ℕ) → length (head_of kind mark minute) ≡ 8
-head_length k m n = simp bytes32_length
-
-pub figures_length : (c : Fitted) → length (figures_of c) ≡ 20
-unfolding figures_of
-figures_length c = simp (length-append, bytes32_length, bytes64_length)
-
--- more is written where the last part ends
-pub more : (target t : List ℕ) (at : ℕ) (parts new : List ℕ) (end : ℕ) → t ≡ written target at parts → at + length parts ≤ length target → end ≡ at + length parts
-    → written t end new ≡ written target at (parts ++ new)
-more target t at parts new end e h f = ap (λ (l : List ℕ). written l end new) e ∙ written_more target at parts h new end f
-
--- t1 to t4 are the target after each part
-module _ (target t1 t2 t3 t4 : List ℕ) where
-  pub figures_written : (c : Fitted) → 32 ≤ length target → t1 ≡ written target 12 (bytes32 (unsigned32 c.line.slope)) → t2 ≡ written t1 16 (bytes64 (unsigned64 c.line.intercept))
-      → t3 ≡ written t2 24 (bytes32 (unsigned32 c.top.0))
-      → t4 ≡ written t3 28 (bytes32 c.count)
-      → t4 ≡ written target 12 (figures_of c)
-  unfolding figures_of
-  figures_written c h e1 e2 e3 e4 =
-      let a : List ℕ = bytes32 (unsigned32 c.line.slope) in
-      let b : List ℕ = bytes64 (unsigned64 c.line.intercept) in
-      let d : List ℕ = bytes32 (unsigned32 c.top.0) in
-      let la : length a ≡ 4 = bytes32_length (unsigned32 c.line.slope) in
-      let lb : length b ≡ 8 = bytes64_length (unsigned64 c.line.intercept) in
-      let ld : length d ≡ 4 = bytes32_length (unsigned32 c.top.0) in
-      let lab = length-append a b in
-      let labd = length-append (a ++ b) d in
-      let two = e2 ∙ more target t1 12 a b 16 e1 (omega arith) (omega arith) in
-      let three = e3 ∙ more target t2 12 (a ++ b) d 24 two (omega arith) (omega arith) in
-      e4 ∙ more target t3 12 (a ++ b ++ d) (bytes32 c.count) 28 three (omega arith) (omega arith)
-
--- t1 to t3 are the target after each part but the zeros
-module _ (target t1 t2 t3 : List ℕ) (c : Fitted) (mark minute : ℕ) (z : ℤ) where
-  abbrev calibration_front : List ℕ
-  calibration_front = head_of 5 (pass_mark c) minute ++ bytes32 (unsigned32 z) ++ figures_of c
-
-  front_length : length calibration_front ≡ 32
-  front_length =
-      let a : List ℕ = head_of 5 (pass_mark c) minute in
-      let b : List ℕ = bytes32 (unsigned32 z) in
-      omega (arith, length-append (a ++ b) (figures_of c), length-append a b, head_length 5 (pass_mark c) minute, bytes32_length (unsigned32 z), figures_length c)
-
-  module _ (m : mark ≡ pass_mark c) (e1 : t1 ≡ written target 0 (head_of 5 mark minute)) (e2 : t2 ≡ written t1 8 (bytes32 (unsigned32 z))) (e3 : t3 ≡ written t2 12 (figures_of c)) where
-    front_written : 32 ≤ length target → t3 ≡ written target 0 calibration_front
-    front_written h =
-        let a : List ℕ = head_of 5 (pass_mark c) minute in
-        let b : List ℕ = bytes32 (unsigned32 z) in
-        let la : length a ≡ 8 = head_length 5 (pass_mark c) minute in
-        let lb : length b ≡ 4 = bytes32_length (unsigned32 z) in
-        let lab = length-append a b in
-        let one = e1 ∙ ap (λ (k : ℕ). written target 0 (head_of 5 k minute)) m in
-        let two = e2 ∙ more target t1 0 a b 8 one (omega arith) (omega arith) in
-        e3 ∙ more target t2 0 (a ++ b) (figures_of c) 12 two (omega arith) (omega arith)
-
-module _ (target t1 t2 t3 t4 : List ℕ) where
-  pub calibration_written : (c : Fitted) (mark minute : ℕ) (z : ℤ) → length target ≡ 40 → mark ≡ pass_mark c → t1 ≡ written target 0 (head_of 5 mark minute)
-      → t2 ≡ written t1 8 (bytes32 (unsigned32 z))
-      → t3 ≡ written t2 12 (figures_of c)
-      → t4 ≡ written t3 32 (replicate 8 0)
-      → t4 ≡ calibration_record c minute z
-  unfolding calibration_record figures_of
-  calibration_written c mark minute z h m e1 e2 e3 e4 =
-      let f : List ℕ = calibration_front target t1 t2 t3 c mark minute z in
-      let o : List ℕ = replicate 8 0 in
-      let lf : length f ≡ 32 = front_length target t1 t2 t3 c mark minute z in
-      let lo : length o ≡ 8 = refl in
-      let lfo = length-append f o in
-      let three = front_written target t1 t2 t3 c mark minute z m e1 e2 e3 (omega arith) in
-      e4 ∙ more target t3 0 f o 32 three (omega arith) (omega arith) ∙ written_whole target (f ++ o) (omega arith)
-      ∙ ap (λ (l : List ℕ). l ++ o) (spread (head_of 5 (pass_mark c) minute ++ bytes32 (unsigned32 z)) (bytes32 (unsigned32 c.line.slope)) (bytes64 (unsigned64 c.line.intercept)) (bytes32 (unsigned32 c.top.0)) (bytes32 c.count))
-    where
-      spread : (k u v w x : List ℕ) → k ++ (u ++ v ++ w ++ x) ≡ k ++ u ++ v ++ w ++ x
-      spread k u v w x = simp append_assoc
-
-module _ (target t1 t2 t3 : List ℕ) where
-  pub annual_written : (t : Tested) (mark count minute : ℕ) → length target ≡ 40 → mark ≡ test_mark t → t1 ≡ written target 0 (head_of 6 mark minute)
-      → t2 ≡ written t1 8 (bytes32 count)
-      → t3 ≡ written t2 12 (replicate 28 0)
-      → t3 ≡ annual_record t count minute
-  unfolding annual_record
-  annual_written t mark count minute h m e1 e2 e3 =
-      let a : List ℕ = head_of 6 (test_mark t) minute in
-      let b : List ℕ = bytes32 count in
-      let o : List ℕ = replicate 28 0 in
-      let la : length a ≡ 8 = head_length 6 (test_mark t) minute in
-      let lb : length b ≡ 4 = bytes32_length count in
-      let lo : length o ≡ 28 = refl in
-      let lab = length-append a b in
-      let labo = length-append (a ++ b) o in
-      let one = e1 ∙ ap (λ (k : ℕ). written target 0 (head_of 6 k minute)) m in
-      let two = e2 ∙ more target t1 0 a b 8 one (omega arith) (omega arith) in
-      e3 ∙ more target t2 0 (a ++ b) o 12 two (omega arith) (omega arith) ∙ written_whole target (a ++ b ++ o) (omega arith)
-
--- the same in an array of zeros
-module _ (t1 t2 t3 : List ℕ) where
-  pub calibration_stored : (c : Fitted) (mark minute : ℕ) (z : ℤ) → mark ≡ pass_mark c → t1 ≡ written (replicate 40 0) 0 (head_of 5 mark minute)
-      → t2 ≡ written t1 8 (bytes32 (unsigned32 z))
-      → t3 ≡ written t2 12 (figures_of c)
-      → t3 ≡ calibration_record c minute z
-  calibration_stored c mark minute z m e1 e2 e3 =
-      let whole : List ℕ = replicate 40 0 in
-      let w = front_written whole t1 t2 t3 c mark minute z m e1 e2 e3 (omega arith) in
-      let f = front_length whole t1 t2 t3 c mark minute z in
-      calibration_written whole t1 t2 t3 t3 c mark minute z refl m e1 e2 e3 (zeros_stay 40 8 32 (calibration_front whole t1 t2 t3 c mark minute z) t3 w (sym f) (omega arith))
-
-module _ (t1 t2 : List ℕ) where
-  pub annual_stored : (t : Tested) (mark count minute : ℕ) → mark ≡ test_mark t → t1 ≡ written (replicate 40 0) 0 (head_of 6 mark minute) → t2 ≡ written t1 8 (bytes32 count)
-      → t2 ≡ annual_record t count minute
-  annual_stored t mark count minute m e1 e2 =
-      let whole : List ℕ = replicate 40 0 in
-      let a : List ℕ = head_of 6 mark minute in
-      let b : List ℕ = bytes32 count in
-      let la : length a ≡ 8 = head_length 6 mark minute in
-      let lb : length b ≡ 4 = bytes32_length count in
-      let lab = length-append a b in
-      let w = e2 ∙ more whole t1 0 a b 8 e1 (omega arith) (omega arith) in
-      annual_written whole t1 t2 t2 t mark count minute refl m e1 e2 (zeros_stay 40 28 12 (a ++ b) t2 w (omega arith) (omega arith))
+use Rattle.file.specs.Closings.{Made, first_rows, z_fits, closing_of, closing_refusal, made, made_at, made_by, ran_before, making_refusal, make_of, made_bytes}
 
 -- ---- its rows
 

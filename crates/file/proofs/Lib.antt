@@ -1,6 +1,4 @@
 pub mod TakeLaws
-pub mod ZeroLaws
-pub mod SignedLaws
 pub mod OutcomeLaws
 pub mod TakingLaws
 pub mod CallsLaws

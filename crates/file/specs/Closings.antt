@@ -1,13 +1,12 @@
 -- Paper 01, 'Making blocks and closings', and paper 02, C-12 and C-13: making a closing, and the rows of 'Where input is
 -- stopped' for it. Its figures are worked out from the state that the records before it lead to, in a block of the
 -- edition told.
-use Rattle.std.specs.Prelude.{Bool, not, ◌||◌, List, [], ◌∷◌, ◌++◌, ℕ, ◌-◌, ◌/◌, ◌%◌, eqb, ℤ, pos, negsuc, length, replicate, if◌then◌else◌, Result}
+use Rattle.std.specs.Prelude.{Bool, not, ◌||◌, List, ℕ, ◌/◌, eqb, ℤ, pos, length, if◌then◌else◌, Result}
 use Rattle.refusals.specs.Rows.{◌when◌, ◌or◌, unless_refused}
 use Rattle.calibration.specs.Pairs.{z_ranged_of}
-use Rattle.calibration.specs.Outcomes.{Fitted, Tested}
-use Rattle.records.specs.Bytes.{bytes32}
 use Rattle.records.specs.Record.{Record}
-use Rattle.records.specs.Table.{Facts, untimely, calibration_of, annual_of, pass_mark, test_mark, sameℤ}
+use Rattle.records.specs.Writing.{calibration_record, annual_record}
+use Rattle.records.specs.Table.{Facts, untimely, calibration_of, annual_of, sameℤ}
 use Rattle.records.specs.State.{facts_of}
 use Rattle.records.specs.Steps.{Ran, ran_from, state_rules}
 use Rattle.records.specs.declared.state.State.{State}
@@ -17,36 +16,7 @@ use Rattle.file.specs.Calls.{ready_of, opened}
 use Rattle.file.specs.Answered.{row_of, place_of}
 use Rattle.file.specs.declared.Refused.{Refused}
 
--- ---- the forty bytes
-
--- the unsigned number that has the same 32 bits as a signed one, or the same 64
-unfoldable pub unsigned32 : ℤ → ℕ
-unsigned32 (pos n) = n
-unsigned32 (negsuc n) = 4294967295 - n
-
-unfoldable pub unsigned64 : ℤ → ℕ
-unsigned64 (pos n) = n
-unsigned64 (negsuc n) = 18446744073709551615 - n
-
--- the eight bytes of a number
-unfoldable pub bytes64 : ℕ → List ℕ
-bytes64 n = bytes32 (n % 4294967296) ++ bytes32 (n / 4294967296)
-
--- kind 5: Z, slope, intercept, top and N
-unfoldable pub calibration_record : Fitted → ℕ → ℤ → Record
-calibration_record c minute z =
-    (5 ∷ pass_mark c ∷ 0 ∷ 0 ∷ [])
-    ++ bytes32 minute
-    ++ bytes32 (unsigned32 z)
-    ++ bytes32 (unsigned32 c.line.slope)
-    ++ bytes64 (unsigned64 c.line.intercept)
-    ++ bytes32 (unsigned32 c.top.0)
-    ++ bytes32 c.count
-    ++ replicate 8 0
-
--- kind 6: N
-unfoldable pub annual_record : Tested → ℕ → ℕ → Record
-annual_record t count minute = (6 ∷ test_mark t ∷ 0 ∷ 0 ∷ []) ++ bytes32 minute ++ bytes32 count ++ replicate 28 0
+-- ---- the record
 
 -- the closing that the records before it give
 unfoldable pub closing_of : Facts → ℕ → ℕ → ℤ → Record
@@ -119,13 +89,3 @@ made_bytes st edition bytes kind minute z old =
     if eqb (make_of st edition bytes kind minute z (length old)).refusal 0
     then closing_of (facts_of (ran_before st edition bytes).kept) kind minute z
     else old
-
--- ---- parts of a closing, as the code writes and tests them
-
--- the first eight bytes of a record
-abbrev pub head_of : ℕ → ℕ → ℕ → List ℕ
-head_of kind mark minute = (kind ∷ mark ∷ 0 ∷ 0 ∷ []) ++ bytes32 minute
-
--- slope, intercept, top and N
-unfoldable pub figures_of : Fitted → List ℕ
-figures_of c = bytes32 (unsigned32 c.line.slope) ++ bytes64 (unsigned64 c.line.intercept) ++ bytes32 (unsigned32 c.top.0) ++ bytes32 c.count

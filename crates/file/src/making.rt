@@ -1,17 +1,14 @@
 // Making a closing (paper 01, 'Making blocks and closings', and paper 02, C-12).
-ghost use Rattle.std.specs.Prelude.{◌≡◌, ◌||◌, eqb, length, replicate, IfOk, Ok};
+ghost use Rattle.std.specs.Prelude.{◌≡◌, ◌||◌, eqb, length, IfOk};
 ghost use Rattle.refusals.specs.Rows.{outcome_of};
-ghost use Rattle.calibration.specs.Outcomes.{fitted, tested};
-ghost use Rattle.records.specs.Bytes.{written};
 ghost use Rattle.records.specs.Soundness.{Fitting};
 ghost use Rattle.records.specs.State.{facts_of};
 ghost use Rattle.file.specs.Answered.{PlaceOfTwelve};
-ghost use Rattle.file.specs.Closings.{annual_record, calibration_record, closing_of, closing_refusal, first_rows, head_of, made_by, made_bytes, make_of, z_fits};
+ghost use Rattle.file.specs.Closings.{closing_of, closing_refusal, first_rows, made_by, made_bytes, make_of, z_fits};
 
 use crate::{Refused, forming, taking};
-use calibration::{Figures, Verdicts};
 use records::state::State;
-use records::{bytes, checks, closing};
+use records::{checks, closing, writing};
 use refusals::Refusal;
 
 // A closing to be made: its kind, its minute, and Z for a calibration. The kind is a record's byte, as any byte may be asked for: row 6 stops one that
@@ -21,41 +18,6 @@ pub struct Closing {
     pub kind: u8,
     pub minute: u32,
     pub z: i32,
-}
-
-// ---- the forty bytes
-
-// A record of zeros but for its first eight bytes. Kind and mark are the record's bytes, as they are written.
-fn head_bytes(kind: u8, mark: u8, minute: u32) -> [u8; 40]
-    ensures { result ≡ written (replicate 40 0) 0 (head_of kind mark minute) }
-{
-    let mut record = [0u8; 40];
-    record[0] = kind;
-    record[1] = mark;
-    bytes::write32(&mut record, 4, minute);
-    record
-}
-
-// A calibration closing: Z, and slope, intercept, top and N of a fit.
-fn calibration_bytes(c: Figures, minute: u32, z: i32) -> [u8; 40]
-    ensures { result ≡ calibration_record (fitted (Ok c)) minute z }
-{
-    let mut record = head_bytes(5, closing::pass_mark(c), minute);
-    bytes::copy(&mut record, 8, &z.to_le_bytes());
-    bytes::copy(&mut record, 12, &c.line.slope.to_le_bytes());
-    bytes::copy(&mut record, 16, &c.line.intercept.to_le_bytes());
-    bytes::copy(&mut record, 24, &c.top.0.to_le_bytes());
-    bytes::write32(&mut record, 28, c.count);
-    record
-}
-
-// An annual closing: N.
-fn annual_bytes(v: Verdicts, count: u32, minute: u32) -> [u8; 40]
-    ensures { result ≡ annual_record (tested (Ok v)) count minute }
-{
-    let mut record = head_bytes(6, closing::test_mark(v), minute);
-    bytes::write32(&mut record, 8, count);
-    record
 }
 
 // ---- its rows
@@ -68,7 +30,7 @@ fn closes(kind: u8) -> bool
 }
 
 // Z in its range for a calibration, 0 for an annual test.
-#[tactic(auto, using(crate::proofs::SignedLaws::zero_same), unfolding(crate::specs::Closings::z_fits))]
+#[tactic(auto, using(records::proofs::SignedLaws::zero_same), unfolding(crate::specs::Closings::z_fits))]
 fn z_fits(kind: u8, z: i32) -> bool
     ensures { result ≡ z_fits kind z }
 {
@@ -104,10 +66,10 @@ fn close(st: State, closing: Closing) -> Result<[u8; 40], Refusal>
     first_rows(st, closing)?;
     if closing.kind == 5 {
         let figures = closing::calibration_result(st, closing.z)?;
-        return Ok(calibration_bytes(figures, closing.minute, closing.z));
+        return Ok(writing::calibration(figures, closing.minute, closing.z));
     }
     let verdicts = closing::annual_result(st)?;
-    Ok(annual_bytes(verdicts, st.pending, closing.minute))
+    Ok(writing::annual(verdicts, st.pending, closing.minute))
 }
 
 // Making a closing for a block of the edition told into the target, with any state, any edition, any bytes, any closing and any target. State and edition

@@ -12,3 +12,5 @@ pub mod TableLaws
 pub mod SoundnessLaws
 pub mod AnswersLaws
 pub mod LentListLaws
+pub mod WritingLaws
+pub mod ReadBackLaws

@@ -1,7 +1,9 @@
 -- Signed numbers that a call gives, as the machine reads them back from their bits.
-use mathlib.Core.Path.{◌≡◌, sym, ap, ◌∙◌}
+use mathlib.Core.Path.{◌≡◌, refl, sym, ap, ◌∙◌}
+use borrow.Author.Tests.{ne_eqb, lt-leb}
+use Rattle.std.specs.Int.{cast_unsigned}
 use mathlib.Core.Bool.{Bool}
-use Prim.Native.Nat.{ℕ, ◌^◌, ◌<◌}
+use Prim.Native.Nat.{ℕ, zero, suc, ◌^◌, ◌<◌}
 use native.Mathlib.Omega.{arith}
 use lib.Dec.{T, eqb}
 use lib.IntN.{ℤ, pos, negsuc, nat_abs}
@@ -44,6 +46,12 @@ same_bits w {x} {y} {z} ok e f =
       back = λ p. yes_eqb {a = of_z w x} {b = of_z w y} (ap (of_z w) (e ∙ p));
     })
     (record { sure = same_is z y; back = is_same z y })
+
+-- and with 0, by its bits
+pub zero_same : (z : ℤ) → SFits w32 z → eqb (cast_unsigned w32 z) 0 ≡ sameℤ z (pos 0)
+zero_same (pos zero) f = refl
+zero_same (pos (suc n)) f = rw (ne_eqb (suc n) 0 (λ e. omega arith), lt-leb (suc n) 0 (omega arith))
+zero_same (negsuc n) f = ne_eqb _ 0 (λ e. omega (arith, f.sfits))
 
 -- a number in a range that is not below 0 is cast to an unsigned type
 pub unsigned_need : (w : Width) {a b : ℕ} {y z : ℤ} → b < 2 ^ bits w → y ≡ z → Between (pos a) (pos b) z → T (non_neg y) × Fits w (nat_abs y)

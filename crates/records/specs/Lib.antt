@@ -6,6 +6,7 @@ pub mod RecordLaws
 pub mod Kinds
 pub mod Lists
 pub mod Table
+pub mod Writing
 pub mod History
 pub mod State
 pub mod StateParts

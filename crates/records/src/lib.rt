@@ -1,6 +1,7 @@
 #![tactic(auto)]
 
 // Records and the state that they lead to.
+pub mod answers;
 pub mod apply;
 pub mod bytes;
 pub mod checks;
@@ -11,3 +12,4 @@ pub mod ranges;
 pub mod soundness;
 pub mod state;
 pub mod step;
+pub mod writing;

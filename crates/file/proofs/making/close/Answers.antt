@@ -11,7 +11,8 @@ use Rattle.calibration.specs.Pairs.{ZRanged}
 use Rattle.records.specs.State.{facts_of}
 use Rattle.records.specs.Soundness.{SettingSound, count_limit}
 use Rattle.records.specs.Table.{calibration_of}
-use Rattle.file.specs.Closings.{annual_record, first_rows, calibration_record}
+use Rattle.records.specs.Writing.{annual_record, calibration_record}
+use Rattle.file.specs.Closings.{first_rows}
 use Rattle.file.proofs.ClosingLaws as L
 use Rattle.file.proofs.OutcomeLaws.{some_row}
 use Rattle.file.proofs.making.close.Goals as goal
@@ -70,7 +71,7 @@ pub returns-then-closing-eq5-clause-bytes : goal.returns-then-closing-eq5-clause
 returns-then-closing-eq5-clause-bytes c =
     let a = c.args.closing in
     let s = (goal.at.returns-then-closing-eq5-clause-bytes c).Start in
-    c.calibration_bytes.ensures
+    c.calibration.ensures
     ∙ ap (calibration_record (fitted (Ok c.in_ok-figures.figures)) a.minute) (reads s)
     ∙ ap (λ (x : Fitted). calibration_record x a.minute a.z) (fit_is s _ c.in_ok-figures.ensures)
     ∙ sym (L.calibration_bytes (facts_of c.args.st) a.kind a.minute a.z c.if-closing-eq5.true)
@@ -93,7 +94,7 @@ pub returns-clause-bytes : goal.returns-clause-bytes
 returns-clause-bytes c =
     let a = c.args.closing in
     let f = facts_of c.args.st in
-    c.annual_bytes.ensures
+    c.annual.ensures
     ∙ ap (λ (m : ℕ). annual_record (tested (Ok c.in_ok-verdicts.verdicts)) m a.minute) (sym (waiting (goal.at.returns-clause-bytes c).Start))
     ∙ ap (λ (t : Tested). annual_record t (length f.pending) a.minute) c.in_ok-verdicts.ensures
     ∙ sym (L.annual_bytes f a.kind a.minute a.z c.if-closing-eq5.false)
