@@ -1,12 +1,16 @@
 """The program `cases` by the model: what it must print for its script, command by command.
 
-What each command does is told in the head of the script itself, crates/cases/stdin. A row 7 is none
-of the papers'. The script has states that no list of calls leaves, and the tests that stop them
-here are `left_by_calls`, by what a state of so many blocks can hold.
+What each command does is told in the head of the script itself, crates/cases/stdin. Two things in
+it are none of the papers': row 7, for a state that no list of calls leaves (`left_by_calls`), and
+the word `outside`, for numbers that a call is not made for.
 """
-from model import (BLOCK, HEAD, KINDS, LAST_NUMBER, NO_PLACE, PLACES, RECORD, Standing,
-                   alarms_of, applied, check, formed_block, made_closing, record_bytes, record_of,
-                   record_row, report_line, s_of, sealed, six_alarms, taken_run, usable)
+from model import (ANNUAL_COUNTS, BLOCK, CALIBRATION, CONDITIONS, COUNTS, HEAD, HIGHEST_SLOPE,
+                   KINDS, LAST_NUMBER, NO_FIGURES, NO_PLACE, PAIR, PLACES, READINGS, RECORD,
+                   SETTING, Basis, Chart, Conditions, Function, Pair, Standing, alarms_of,
+                   annual_mark, applied, calibrated, calibrates_as, chart_read, check,
+                   formed_block, in_standard, lent_list, made_closing, near, record_bytes,
+                   record_of, record_row, report_line, s_of, sealed, six_alarms, taken_run,
+                   usable)
 
 OLD_BYTE, ROOM = 0xA5, 600      # the target has room for so many bytes, each of them this one
 LISTED = 13                     # the list has room for so many records
@@ -50,6 +54,9 @@ class Desk:
         self.listed = self.run = b''
         self.target = bytes([OLD_BYTE]) * ROOM
         self.edition, self.line, self.lines = 1, None, []
+        self.chart = Chart()
+        self.conditions = [Conditions(0, 0, 0, 1_100)] * 2      # the first pair's, the others'
+        self.pairs = []                                         # a signal and an SRM value each
 
     def say(self, text):
         """Adds to the line of a case, or writes a line."""
@@ -60,6 +67,192 @@ class Desk:
 
     def write(self, text):
         self.lines.append(text)
+
+
+# ---- Rounding and charts
+
+def within(v, ends):
+    return ends[0] <= v <= ends[1]
+
+
+def write_near(d, n, over):
+    n, over = long(n), long(over)
+    takes = abs(n) <= 2**62 and 1 <= over <= 2**61
+    d.write('near %d/%d %s' % (n, over, near(n, over, d.edition) if takes else 'outside'))
+
+
+def write_unsigned(d, n, over):
+    n, over = whole(n, 0, 2**64 - 1), whole(over, 0, 2**64 - 1)
+    text = near(n, over, d.edition) if over else 'outside'
+    d.write('unsigned %d/%d %s' % (n, over, text))
+
+
+def read_one(d, s, difference):
+    """One difference more, as far as the chart takes it."""
+    if within(difference, (-800_000, 400_000)) and d.chart.readings < READINGS:
+        d.chart = chart_read(d.chart, s, difference, d.edition)
+
+
+def write_chart(d, name, s):
+    d.write('%s %s' % (name, chart_figures(d.chart, s)))
+
+
+def go_on(d, name, s, *differences):
+    s = unsigned(s)
+    for v in map(signed, differences):
+        read_one(d, s, v)
+        write_chart(d, name, s)
+    if not differences:
+        write_chart(d, name, s)
+
+
+def reset(d):
+    d.chart = Chart(started=True)
+
+
+def series(d, name, s, *differences):
+    reset(d)
+    if differences:
+        go_on(d, name, s, *differences)
+
+
+def fill(d, times, s, *differences):
+    s, differences = unsigned(s), [signed(v) for v in differences]
+    for _ in range(unsigned(times)):
+        for v in differences:
+            read_one(d, s, v)
+
+
+def unstarted(d):
+    d.chart = Chart()
+
+
+def stop(d):
+    d.chart = d.chart._replace(started=False)
+
+
+def sound(d, name, readings, last, value, count):
+    """No more than the readings can have made: each adds at most 1000 times 400,000."""
+    readings, count, last, value = unsigned(readings), unsigned(count), signed(last), long(value)
+    holds = readings <= READINGS and within(last, (-800_000, 400_000)) \
+        and count <= readings and 0 <= value <= 400_000_000 * count
+    d.write('%s %s %d' % ('sound', name, holds))
+
+
+# ---- Standard conditions, fits and annual tests
+
+FIGURE, OXYGEN = KINDS[PAIR].ranges[2], KINDS[SETTING].ranges[4]
+HIGHEST_VALUE, HIGHEST_INTERCEPT = 8_000_000, 400_000_000_000
+
+
+def conditions_of(words):
+    if len(words) != 4:
+        raise Unknown
+    return Conditions(*map(signed, words))
+
+
+def in_ranges(numbers, ranges):
+    return all(within(v, ends) for v, ends in zip(numbers, ranges))
+
+
+def conditions_text(at, oxygen):
+    return 't %d p %d h %d o %d reference %d' % (*at, oxygen)
+
+
+def write_standard(d, v, *words):
+    v, at, oxygen = long(v), conditions_of(words[:4]), signed(*words[4:])
+    takes = abs(v) <= HIGHEST_VALUE and in_ranges(at, CONDITIONS) and within(oxygen, OXYGEN)
+    text = 'is %d' % in_standard(v, at, oxygen, d.edition) if takes else 'outside'
+    d.write('standard %d %s %s' % (v, conditions_text(at, oxygen), text))
+
+
+def function_taken(slope, intercept):
+    return 1 <= slope <= HIGHEST_SLOPE and abs(intercept) <= HIGHEST_INTERCEPT
+
+
+def write_value(d, x, *words):
+    x, at, oxygen = signed(x), conditions_of(words[:4]), signed(words[4])
+    slope, intercept = map(long, words[5:])
+    takes = within(x, FIGURE) and in_ranges(at, CONDITIONS) and within(oxygen, OXYGEN) \
+        and function_taken(slope, intercept)
+    text = 'outside'
+    if takes:
+        text = 'is %d' % calibrated(x, at, Function(slope, intercept, 0, 0), oxygen, d.edition)
+    d.write('value %d B %d A %d %s %s' % (
+        x, slope, intercept, conditions_text(at, oxygen), text))
+
+
+def set_conditions(d, *words):
+    d.conditions = [conditions_of(words[:4]), conditions_of(words[4:])]
+
+
+def set_pairs(d, *words):
+    numbers = [signed(w) for w in words]
+    if len(numbers) % 2 or not numbers:
+        raise Unknown
+    d.pairs = list(zip(numbers[::2], numbers[1::2]))
+
+
+def first_pairs(d, n):
+    """The first n pairs of the list, its last one again past its end."""
+    return (d.pairs + d.pairs[-1:] * n)[:n]
+
+
+def set_pair(d, i, x, y):
+    i = whole(i, 0, 10**6)
+    d.pairs = first_pairs(d, max(i + 1, len(d.pairs)))
+    d.pairs[i] = signed(x), signed(y)
+
+
+def lent_pairs(d, n):
+    first, others = d.conditions
+    return [Pair(60, 91, x, y, *(others if i else first))
+            for i, (x, y) in enumerate(first_pairs(d, n))]
+
+
+def pairs_taken(pairs, basis):
+    """What a fit of a list and an annual test ask for, beside Z and the function."""
+    ranges = KINDS[SETTING].ranges
+    return len(pairs) <= 30 and in_ranges(basis, (ranges[0], ranges[1], ranges[4])) \
+        and all(in_ranges(p[2:8], KINDS[PAIR].ranges[2:]) for p in pairs)
+
+
+def figures_text(row, figures):
+    return 'refusal %d passed %d B %d A %d top %d N %d' % (row, *(figures or NO_FIGURES))
+
+
+def fit_head(name, n, basis, z):
+    return '%s n %d E %d sigma %d reference %d Z %d ' % (name, n, *basis, z)
+
+
+def fit(d, name, n, *words):
+    n, (*basis, z) = unsigned(n), map(signed, words)
+    basis, pairs = Basis(*basis), lent_pairs(d, n)
+    text = 'outside'
+    if pairs_taken(pairs, basis) and within(z, KINDS[CALIBRATION].ranges[0]):
+        counted = n in COUNTS
+        text = figures_text(*(calibrates_as(pairs, basis, z, d.edition) if counted else (20, None)))
+    d.write(fit_head(name, n, basis, z) + text)
+
+
+def lent(d, name, n, *words):
+    n, (*basis, z) = unsigned(n), map(signed, words)
+    basis = Basis(*basis)
+    row, figures = lent_list(d.edition, basis, z, lent_pairs(d, n))
+    d.write(fit_head(name, n, basis, z) + figures_text(row, figures))
+
+
+def annual(d, name, n, *words):
+    n, (*basis, slope, intercept) = unsigned(n), map(long, words)
+    basis, pairs = Basis(*basis), lent_pairs(d, n)
+    text = 'outside'
+    if pairs_taken(pairs, basis) and function_taken(slope, intercept):
+        function = Function(slope, intercept, 0, 0)
+        row, mark = annual_mark(pairs, basis, function, d.edition) \
+            if n in ANNUAL_COUNTS else (20, None)
+        text = 'refusal %d variability %d function %d' % (row, (mark or 0) & 1, (mark or 0) >> 1)
+    d.write('%s n %d sigma %d reference %d B %d A %d %s' % (
+        name, n, basis.sigma, basis.oxygen, slope, intercept, text))
 
 
 def left_by_calls(st):
@@ -196,7 +389,7 @@ def answered(d, row, place, written):
     d.say('refused %d place %d %s' % (row, place, 'kept' if written is None else 'written'))
 
 
-def lent(d, less):
+def without(d, less):
     return d.listed[:max(0, len(d.listed) - whole(less, 0, len(d.listed)))]
 
 
@@ -206,7 +399,7 @@ def seven(d, row):
 
 
 def form_block(d, size, less='0'):
-    row, place, state, block = formed_block(d.state, d.edition, lent(d, less), unsigned(size))
+    row, place, state, block = formed_block(d.state, d.edition, without(d, less), unsigned(size))
     if seven(d, row) == 7:
         row, place, block = 7, NO_PLACE, None
     if block is not None:
@@ -216,7 +409,7 @@ def form_block(d, size, less='0'):
 
 
 def make_closing(d, kind, minute, z, size, less='0'):
-    row, place, closing = made_closing(d.state, d.edition, lent(d, less), byte(kind),
+    row, place, closing = made_closing(d.state, d.edition, without(d, less), byte(kind),
                                        unsigned(minute), signed(z), unsigned(size))
     if seven(d, row) == 7:
         row, place, closing = 7, NO_PLACE, None
@@ -262,6 +455,10 @@ COMMANDS = {
     'clear': clear, 'form': form_block, 'make': make_closing, 'bytes': target_bytes,
     'take': take, 'poke': poke, 'seal': seal, 'expect': expect, 'edition': tell_edition,
     'open': open_block,
+    'near': write_near, 'unsigned': write_unsigned, 'series': series, 'chart': go_on,
+    'fill': fill, 'reset': reset, 'unstarted': unstarted, 'stop': stop, 'sound': sound,
+    'standard': write_standard, 'value': write_value, 'conditions': set_conditions,
+    'pairs': set_pairs, 'pair': set_pair, 'fit': fit, 'lent': lent, 'annual': annual,
 }
 TEXTS = {'case': begin_case, 'try': try_record, 'check': check_text}     # the rest is one text
 
@@ -273,16 +470,27 @@ def run_line(d, line):
             TEXTS[word](d, rest)
         else:
             COMMANDS[word](d, *rest.split())
-    except (KeyError, TypeError, Unknown):
+    except (KeyError, TypeError, ValueError, IndexError, Unknown):
         d.say('unknown')
+
+
+def run_again(d, edition, lines):
+    """`again N`: the lines above once more in edition N."""
+    d.edition = byte(edition)
+    d.write('edition %d' % d.edition)
+    for line in lines:
+        run_line(d, line)
 
 
 def answers(script):
     """The lines for a script."""
-    d = Desk()
+    d, above = Desk(), []
     for line in script:
         line = line.rstrip('\n')
-        if line and not line.startswith('#'):
+        if line.startswith('again '):
+            run_again(d, line[6:], list(above))
+        elif line and not line.startswith('#'):
             run_line(d, line)
+            above.append(line)
         yield from (text + '\n' for text in d.lines)
         d.lines.clear()
