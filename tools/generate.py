@@ -6,10 +6,10 @@ soon end.
 from math import isqrt
 
 from model import (ANNUAL, ANNUAL_COUNTS, BLOCK, CALIBRATION, CONDITIONS, COUNTS, DAY, DROP,
-                   FIELDS_AT, FURTHEST, KINDS, LAST_MINUTE, PAIR, PLACES, READING, READINGS, RECORD,
-                   RECORDS_AT, RESET, SETTING, VALUE, WEEK, Conditions, History, Pair,
-                   alarms_of, annual_mark, applied, basis_of, block_bytes, calibrates_as,
-                   calibrated, closing_bytes, in_standard, record_bytes, record_of, record_row,
+                   FIELDS_AT, FURTHEST, K, KINDS, LAST_MINUTE, PAIR, PLACES, READING, READINGS,
+                   RECORD, RECORDS_AT, RESET, SETTING, VALUE, WEEK, Conditions, History, Pair,
+                   alarms_of, annual_mark, applied, basis_of, block_bytes, calibrated,
+                   calibrates_as, closing_bytes, in_standard, record_bytes, record_of, record_row,
                    s_of, sealed, start_of)
 
 FIGURE = 400_000
@@ -50,9 +50,6 @@ class Writer:
                 self.analyser, len(self.blocks), self.edition, self.records))
             self.records = b''
             self.begin()
-
-    def accepts(self, record):
-        return not record_row(self.history, record_of(record, self.edition))
 
     def put(self, record, spoils=None):
         """Adds a record. One that is refused is left out, or ends the file."""
@@ -105,9 +102,9 @@ def about(rng, ends):
 
 def first_setting(w):
     rng = w.rng
-    limit = rng.choice((100, 1000, 10_000, 66_470, inside(rng, (100, FIGURE))))
+    limit = rng.choice((100, 1000, 10_000, 66_470, FIGURE, inside(rng, (100, FIGURE))))
     sigma = rng.choice((1, 10, 500, 10000, rng.randint(1, 10000)))
-    s = [rng.choice((1, 2, 10, 44, 100, 1000, 10000, rng.randint(1, 300))) for _ in range(2)]
+    s = [rng.choice((1, 2, 5, 10, 44, 100, 1000, 10000, rng.randint(1, 300))) for _ in range(2)]
     oxygen = rng.choice((0, 1100, 1800, rng.randint(0, 1800)))
     response = rng.choice((0, 0, 1, 7, 15, 60))
     minute = rng.choice((0, 1, rng.randint(0, 20000), rng.randint(0, 50_000_000)))
@@ -146,16 +143,13 @@ def charts(w):
     rng = w.rng
     mark = rng.randint(0, 1)
     if not w.history.charts[mark].started or rng.random() < 0.3:
-        w.put(record_bytes(RESET, mark, later(w, rng.choice((0, 5, DAY_AND_MORE)))))
+        w.put(record_bytes(RESET, mark, later(w, rng.choice((0, 5, 2000)))))
     for _ in range(rng.choice((3, 8, 20))):
         s = s_of(w.history.setting, mark)
         d = difference(w, w.history.charts[mark], s)
         w.put(reading_of(w, mark, d, later(w, rng.choice((0, 0, 60, 1500)))))
         if rng.random() < 0.1:
             mark = 1 - mark
-
-
-DAY_AND_MORE = 2000
 
 
 def later(w, most):
@@ -189,22 +183,40 @@ def next_end(w, length, gap):
     draw = w.rng.random()
     if draw < 0.03:
         return soonest - 1
-    if pairs and draw < 0.05:                           # the span's end, and the third day
-        return start_of(pairs[0]) + 40_320 + w.rng.randint(0, 1)
-    if pairs and draw < 0.07:
-        return (pairs[0].end // DAY + 2) * DAY - w.rng.randint(0, 1)
     return soonest if draw < 0.2 else soonest + w.rng.randint(0, gap)
 
 
-def put_pair(w, x, y, gap, conditions, spoils=None):
+def last_end(w):
+    """The end of a set's last pair: 28 days after its first start, or its third day; or none."""
+    first, draw = w.history.pairs[0], w.rng.random()
+    if draw < 0.1:
+        return start_of(first) + 40_320 + w.rng.randint(0, 1)
+    if draw < 0.15:
+        return (first.end // DAY + 2) * DAY - w.rng.randint(0, 1)
+    return None
+
+
+def put_pair(w, values, gap, end=None, spoils=None):
+    """A pair with a signal, an SRM value and conditions."""
     rng, response = w.rng, w.history.setting.response or 7
     length = rng.choice((60, 60, 60, 60, 4 * response, max(30, 4 * response), 4 * response - 1,
                          rng.randint(30, 200), rng.choice((59, 60, 61)),
                          1440 if rng.random() < 0.1 else 60))
     coverage = rng.choice((91, 100, 95, 90 if rng.random() < 0.1 else 91))
-    end = next_end(w, length, gap)
-    numbers = (length, coverage, clamped(x), clamped(y)) + tuple(conditions)
-    return w.put(record_bytes(PAIR, 0, max(0, end), *numbers), spoils)
+    x, y, at = values
+    minute = max(0, next_end(w, length, gap) if end is None else end)
+    numbers = (length, coverage, clamped(x), clamped(y)) + tuple(at)
+    return w.put(record_bytes(PAIR, 0, minute, *numbers), spoils)
+
+
+def put_pairs(w, wanted, gap, values):
+    """So many pairs, as far as they are accepted; `values` answers those of the next one."""
+    for _ in range(3 * wanted):
+        waiting = len(w.history.pairs)
+        if waiting >= wanted:
+            break
+        end = last_end(w) if waiting and waiting == wanted - 1 else None
+        put_pair(w, values(waiting), gap, end)
 
 
 def narrow_pairs(rng, limit):
@@ -215,96 +227,125 @@ def narrow_pairs(rng, limit):
 
 
 def pair_values(rng, style, z, setting):
-    """A drawing of (signal, SRM value) for the pairs of one calibration."""
+    """A drawing of (signal, SRM value) for the pairs of one calibration, each by its place."""
     slope = rng.choice((1.0, 1.0, 1.0, 0.1, 1.1, 5.0, 9.99, 10.01, 0.00001, rng.random() * 3))
     noise = int(setting.sigma * rng.choice((0, 0.3, 0.9, 1.5, 1.7, 2)))
     most = min(FIGURE // 4, int(FIGURE / (slope + 1)))
     base, y = rng.randint(1, FIGURE // 4), narrow_pairs(rng, setting.limit)
-    same = rng.choice(((FIGURE, 2), (40_000, 1), (35, 35), (36, 36), (1, 2), (460, 460),
-                       (20, 20), (2_000, 1_000), (base, base), (base, base // 2)))
-    square = ((40_000, FIGURE + rng.choice((0, 0, -1))), (0, 0))    # B 1,000,000 or just less
+    same = rng.choice(SAME + ((base, base), (base, base // 2)))
+    steep, flat = rng.choice(((133_333, 5, 8), (0, 0, 2))), (0, rng.choice((0, 0, 133_333)))
 
-    def line():
+    def line(n):
         x = rng.randint(0, most)
         return x, int((x - z) * slope) + rng.randint(-noise, noise)
 
-    def low():
-        return max(0, z) + rng.choice((-1, 0, 0, 0, 1)), y()
+    def edge(n):                # with fifteen pairs B is at 1,000,000 or 1, or half a step off
+        return (0, steep[0]) if n else (200_000, steep[0] + rng.randint(*steep[1:]))
 
     return {
         'line': line,
-        'ratio': lambda: (z + base + rng.randint(0, 9), y()),
-        'same': lambda: same,
-        'flat': lambda: (base, rng.randint(0, FIGURE)),
-        'low': low,
-        'none': lambda: (rng.randint(0, FIGURE), rng.choice((0, 0, 1))),
-        'steep': lambda: rng.choice(square),
-        'far': lambda: nine_times(rng, rng.randint(1_000, 44_000)),
+        'ratio': lambda n: (z + base + rng.randint(0, 9), y()),
+        'same': lambda n: same,
+        'flat': lambda n: (base, rng.randint(0, FIGURE)),
+        'low': lambda n: (max(0, z) + rng.choice((-1, 0, 0, 0, 1)), y()),
+        'none': lambda n: (rng.randint(0, FIGURE), rng.choice((0, 0, 1))),
+        'edge': edge,
+        'square': lambda n: rng.choice(((40_000, FIGURE), (0, 0), flat)),
     }[style]
 
 
-def nine_times(rng, x):
-    return x, 9 * x + rng.randint(-9, 9)
-
-
-STYLES = ('line',) * 5 + ('ratio',) * 4 + ('same', 'same', 'flat', 'low', 'none', 'steep', 'far')
+# Pairs all alike. With Z 0 the first two give halves in B, the next tops that values make halves of
+SAME = ((FIGURE, 2), (40_000, 1), (35, 35), (460, 460), (56, 56), (20, 20), (11, 11), (1, 2),
+        (2_000, 1_000))
+STYLES = ('line',) * 5 + ('ratio',) * 4 + ('same', 'same', 'flat', 'low', 'none', 'edge', 'square')
+# D's, in parts of k, of which Q is all that a calibration at sigma 10,000 may have
+EXACT = {15: (1, 2, -3), 17: (2, -2, 2, -2), 19: (3, -3), 25: (2, 2, -4)}
 
 
 def far_pair(w):
-    """A signal, SRM value and conditions with y' at 10,000,000, and c about there."""
+    """A signal, SRM value and conditions with y' at 10,000,000 if it can be, and c about there."""
     rng, oxygen = w.rng, w.history.setting.oxygen
-    for _ in range(200):
+    for _ in range(300):
         at = Conditions(rng.randint(20_000, 50_000), rng.randint(-2_000, 0),
                         rng.randint(3_000, 5_000), rng.randint(1_500, 1_800))
         y = clamped(FURTHEST * FIGURE // max(1, in_standard(FIGURE, at, oxygen, w.edition)))
         if 0 <= in_standard(y, at, oxygen, w.edition) - FURTHEST <= 1:
             break
-    return y // 9 + rng.choice((-1, 0, 1)), y, at
+    return y // 9 + rng.choice((-1, 0, 0, 1)), y, at
+
+
+def exact_values(w, wanted):
+    """Values of which Q is the highest that passes, or just over it."""
+    ds = [part * K[wanted] for part in EXACT[wanted]] + [0] * wanted
+    ds[0] += w.rng.choice((0, 0, 1))
+    at = Conditions(0, 0, 0, w.history.setting.oxygen)
+    return [(200_000, 200_000 + d, at) for d in ds[:wanted]]
 
 
 def verdict_values(w, wanted, z):
     """Values that just pass, or just fail, the variability test of a calibration."""
     rng, h = w.rng, w.history
     at, basis = w.conditions(), basis_of(h.setting)
+    if wanted in EXACT and basis.sigma == 10_000 and basis.limit > 330_000:
+        return exact_values(w, wanted)
     xs = [rng.randint(max(0, z) + 10, FIGURE // 4) for _ in range(wanted)]
     noise = [rng.randint(-8 * basis.sigma, 8 * basis.sigma) for _ in xs]
 
     def values(t):
-        return [(x, clamped(x + n * t // 10**6)) for x, n in zip(xs, noise)]
+        return [(x, clamped(x + n * t // 10**6), at) for x, n in zip(xs, noise)]
 
     def passes(t):
-        pairs = [Pair(60, 95, x, y, *at) for x, y in values(t)]
+        pairs = [Pair(60, 95, x, y, *at) for x, y, at in values(t)]
         row, figures = calibrates_as(pairs, basis, z, w.edition)
         return row == 0 and figures.mark == 1
 
-    return at, values(at_flip(rng, 0, 10**6, passes))
+    return values(at_flip(rng, 0, 10**6, passes))
+
+
+def far_values(w, wanted):
+    """Values nine times their signals, the last in conditions that raise it very much."""
+    xs = [w.rng.randint(1_000, 44_000) for _ in range(wanted - 1)]
+    at = w.conditions()
+    return [(x, 9 * x + w.rng.randint(-9, 9), at) for x in xs] + [far_pair(w)]
+
+
+def drawn_values(w, z):
+    """Values of some style, each drawn when it is asked for."""
+    draw = pair_values(w.rng, w.rng.choice(STYLES), z, w.history.setting)
+    at = [w.conditions()]
+
+    def values(n):
+        if not w.neat and w.rng.random() < 0.3:
+            at[0] = w.conditions()
+        return (*draw(n), at[0])
+    return values
 
 
 def calibration(w):
     """Pairs and a closing after them."""
-    rng, setting = w.rng, w.history.setting
+    rng = w.rng
     if w.history.pairs and rng.random() < 0.8:
         w.put(record_bytes(DROP, 0, later(w, 100)))
-    style, z = rng.choice(STYLES), rng.choice((0, 0, 0, 100, -10_000, 10_000,
-                                               rng.randint(-9999, 9999)))
-    wanted = rng.choice(COUNTS + (15, 15, 15, 15, 16, 18, rng.randint(0, 31)))
-    gap = rng.choice((100, 40, 300, 600, 1300, 1400))
-    draw, at, planned = pair_values(rng, style, z, setting), w.conditions(), []
-    if rng.random() < 0.1 and wanted in COUNTS:
-        at, planned = verdict_values(w, wanted, z)
-    for n in range(3 * wanted):
-        waiting = len(w.history.pairs)
-        if waiting >= wanted:
-            break
-        if not w.neat and not planned and rng.random() < 0.3:
-            at = w.conditions()
-        if style == 'far' and not planned and waiting == wanted - 1:
-            put_pair(w, *far_pair(w)[:2], gap, far_pair(w)[2])
-        else:
-            put_pair(w, *(planned[waiting] if waiting < len(planned) else draw()), gap, at)
+    z = rng.choice((0, 0, 0, 100, -10_000, 10_000, rng.randint(-9999, 9999)))
+    wanted = rng.choice(COUNTS + (15, 15, 15, 15, 16, 17, 18, rng.randint(0, 31)))
+    values, style = drawn_values(w, z), rng.random()
+    if wanted in COUNTS and style < 0.2:
+        planned = verdict_values(w, wanted, z) if style < 0.12 else far_values(w, wanted)
+        values = planned.__getitem__
+    put_pairs(w, wanted, rng.choice((100, 40, 300, 600, 1300, 1400)), values)
     if len(w.history.pairs) == 30 and rng.random() < 0.2:
-        put_pair(w, *draw(), gap, at, 0.5)
+        put_pair(w, values(0), 100, None, 0.5)
     put_closing(w, CALIBRATION, z)
+
+
+def even_tops(w):
+    """A calibration by which c is the signal, and weeks of values with c a half over its top."""
+    n = w.rng.choice((11, 20, 36, 56, 56, 460, 460, w.rng.randint(1, 500)))
+    w.put(record_bytes(DROP, 0, w.minute))
+    at = Conditions(0, 0, 0, w.history.setting.oxygen)
+    put_pairs(w, 15, 300, lambda i: (n, n, at))
+    put_closing(w, CALIBRATION, 0)
+    weeks(w, 1.0)
 
 
 def annual_values(w, wanted):
@@ -315,21 +356,26 @@ def annual_values(w, wanted):
     lines = [(h.function.intercept + h.function.slope * x) // 100_000 for x in xs]
     noise = [rng.randint(-8 * basis.sigma, 8 * basis.sigma) for _ in xs]
     part, sign = rng.choice((1, 2)), rng.choice((1, -1))
-    small = rng.choice((0, 1, 2, 10, 100, 1000))
+    small = rng.choice((0, 10, 1_000, 3_000))
 
     def values(t):
         if part == 1:
-            return [(x, clamped(v + n * t // 10**6)) for x, v, n in zip(xs, lines, noise)]
-        shift = sign * 8 * basis.sigma * t // 10**6
-        return [(x, clamped(v + shift + n * small // 10_000))
-                for x, v, n in zip(xs, lines, noise)]
+            return [(x, clamped(v + n * t // 10**6), at) for x, v, n in zip(xs, lines, noise)]
+        total = 8 * basis.sigma * wanted * t // 10**6
+        return [(x, clamped(v + sign * ((total + i) // wanted) + n * small // 10_000), at)
+                for i, (x, v, n) in enumerate(zip(xs, lines, noise))]
 
     def holds(t):
-        pairs = [Pair(60, 95, x, y, *at) for x, y in values(t)]
+        pairs = [Pair(60, 95, x, y, *at) for x, y, at in values(t)]
         row, mark = annual_mark(pairs, basis, h.function, w.edition)
         return row == 0 and mark & part != 0
 
-    return at, values(at_flip(rng, 0, 10**6, holds))
+    out = values(at_flip(rng, 0, 10**6, holds))
+    if rng.random() < 0.1:
+        x, y, far = far_pair(w)
+        x = (y * 100_000 - h.function.intercept) // h.function.slope
+        out[0] = x + rng.choice((0, 0, 1)), y, far
+    return out
 
 
 def annual(w):
@@ -340,19 +386,10 @@ def annual(w):
     if h.pairs and rng.random() < 0.9:
         w.put(record_bytes(DROP, 0, later(w, 100)))
     wanted = rng.choice(ANNUAL_COUNTS + (5, rng.randint(4, 9)))
-    at, values = w.conditions(), [(100, 100)] * 9
+    values = [(100, 100, w.conditions())] * 9
     if h.function is not None and wanted in ANNUAL_COUNTS:
-        at, values = annual_values(w, wanted)
-    for _ in range(3 * wanted):
-        waiting = len(w.history.pairs)
-        if waiting >= wanted:
-            break
-        if waiting == 0 and rng.random() < 0.05:
-            x, y, wide = far_pair(w)
-            f = h.function or (100_000, 0)
-            put_pair(w, (y * 100_000 - f[1]) // f[0] + rng.choice((0, 0, 1)), y, 1000, wide)
-        else:
-            put_pair(w, *values[waiting], 1000, at)
+        values = annual_values(w, wanted)
+    put_pairs(w, wanted, 1000, values.__getitem__)
     put_closing(w, ANNUAL, 0)
 
 
@@ -362,7 +399,8 @@ def bent(rng, record):
     if kind == ANNUAL:
         places = (8,)
     if rng.random() < 0.3:
-        return record[:1] + bytes([record[1] ^ rng.choice(KINDS[kind].marks)]) + record[2:]
+        mark = rng.choice((0, 1, 2, 3, 4, 255))
+        return record[:1] + bytes([mark]) + record[2:]
     i = rng.choice(places) + rng.choice((0, 0, 1, 3))
     return record[:i] + bytes([record[i] ^ 1 << rng.randint(0, 7)]) + record[i + 1:]
 
@@ -448,13 +486,13 @@ def put_value(w, outside, minute):
     return w.put(record_bytes(VALUE, mark, minute, x, *at))
 
 
-def weeks(w):
+def weeks(w, halves=0.2):
     """Weeks of values, some of them outside; or of halves, which the edition's rule decides."""
     rng = w.rng
     if w.history.function is None:
         put_value(w, 0, w.minute)
         return
-    found = [half_value(w) for _ in range(3)] if rng.random() < 0.3 else []
+    found = [half_value(w) for _ in range(3)] if rng.random() < halves else []
     w.halves = [pair for pair in found if pair]
     share = rng.choice(SHARES)
     for _ in range(rng.choice((1, 1, 2, 5, 6, 7, 8))):
@@ -526,7 +564,7 @@ def ages(w):
 # What files are about: charts, a calibration and what follows from it, or all at once
 STORIES = (
     (charts,) * 5 + (edge_record,),
-    (calibration,) * 4 + (annual,) * 2 + (weeks,) * 5 + (ages,) * 3 + (edge_record,),
+    (calibration,) * 4 + (annual,) * 2 + (weeks,) * 5 + (ages,) * 3 + (edge_record, even_tops),
     (charts,) * 2 + (calibration,) * 3 + (annual, weeks, weeks, ages, edge_record),
 )
 
@@ -541,11 +579,27 @@ def told(w):
         w.rng.choice(stories)(w)
 
 
+def limits(w):
+    """A chart whose last reading takes a sum to its limit, or just over it."""
+    rng, mark = w.rng, w.rng.randint(0, 1)
+    s = s_of(w.history.setting, mark)
+    k, sign, over = s // 5, rng.choice((1, -1)), rng.choice((0, 0, 1))
+    w.put(record_bytes(RESET, mark, w.minute))
+    if rng.random() < 0.5:                      # two steps, whose squares are 21.2 s² together
+        ds = (23 * k, 24 * k + over)
+    else:                                       # ten readings of 7.86 s together, or one of 3.351
+        ds = (s,) * 9 + (-114 * s // 100 + over,) if s % 1000 else (3351 * s // 1000 + over,)
+    for d in ds:
+        w.put(reading_of(w, mark, sign * d, w.minute))
+
+
 def ended(w):
     """A last record or two, by which more of what went before shows in the report."""
-    w.goal = 10**6
-    if w.rng.random() < 0.6:
+    w.goal, draw = 10**6, w.rng.random()
+    if draw < 0.5:
         ages(w)
+    elif draw < 0.65:
+        limits(w)
     else:
         edge_record(w, 1)
 
