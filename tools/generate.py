@@ -741,6 +741,19 @@ def record_bent(rng, blocks):
     return rewritten(rng, blocks, change)
 
 
+def record_edged(rng, blocks):
+    """A ranged number of one record at an end of its range, or past it."""
+    def change(records):
+        i = rng.randrange(len(records))
+        form = KINDS.get(records[i][0])
+        ranged = [(n, ends) for n, ends in enumerate(form.ranges) if ends] if form else []
+        if ranged:
+            n, ends = rng.choice(ranged)
+            at, v = FIELDS_AT + 4 * n, about(rng, ends).to_bytes(4, 'little', signed=True)
+            records[i] = records[i][:at] + v + records[i][at + 4:]
+    return rewritten(rng, blocks, change)
+
+
 def edition_from(rng, blocks):
     """Another edition from some block on, or in one block."""
     i, edition = rng.randrange(len(blocks)), rng.choice((1, 2))
@@ -755,7 +768,7 @@ def garbage(rng, blocks):
 
 DAMAGES = (flipped, spoiled, spoiled, spoiled, headed, headed, numbered, cut, lengthened, doubled,
            missing, moved, record_doubled, record_missing, record_bent, record_bent, record_bent,
-           edition_from, edition_from)
+           record_edged, record_edged, record_edged, edition_from, edition_from)
 
 
 def files(rng):

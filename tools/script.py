@@ -231,7 +231,8 @@ def fit(d, name, n, *words):
     text = 'outside'
     if pairs_taken(pairs, basis) and within(z, KINDS[CALIBRATION].ranges[0]):
         counted = n in COUNTS
-        text = figures_text(*(calibrates_as(pairs, basis, z, d.edition) if counted else (20, None)))
+        answer = calibrates_as(pairs, basis, z, d.edition) if counted else (20, None)
+        text = figures_text(*answer)
     d.write(fit_head(name, n, basis, z) + text)
 
 
@@ -347,9 +348,9 @@ def show(d):
     h = d.state.history
     readings = [c.readings if c.started else None for c in h.charts]
     function = '-' if h.function is None else '%d %d %d %d' % h.function
-    d.say('minute %d zero %s span %s pairs %d total %d outside %d over %d call %s calibration %s' % (
-        h.minute or 0, *map(or_dash, readings), len(h.pairs), *h.tally, h.weeks,
-        or_dash(h.call), function))
+    text = 'minute %d zero %s span %s pairs %d total %d outside %d over %d call %s calibration %s'
+    d.say(text % (h.minute or 0, *map(or_dash, readings), len(h.pairs), *h.tally, h.weeks,
+                  or_dash(h.call), function))
 
 
 def chart_figures(c, s):
