@@ -233,14 +233,10 @@ def pair_values(rng, style, z, setting):
     most = min(FIGURE // 4, int(FIGURE / (slope + 1)))
     base, y = rng.randint(1, FIGURE // 4), narrow_pairs(rng, setting.limit)
     same = rng.choice(SAME + ((base, base), (base, base // 2)))
-    steep, flat = rng.choice(((133_333, 5, 8), (0, 0, 2))), (0, rng.choice((0, 0, 133_333)))
 
     def line(n):
         x = rng.randint(0, most)
         return x, int((x - z) * slope) + rng.randint(-noise, noise)
-
-    def edge(n):                # with fifteen pairs B is at 1,000,000 or 1, or half a step off
-        return (0, steep[0]) if n else (200_000, steep[0] + rng.randint(*steep[1:]))
 
     return {
         'line': line,
@@ -249,15 +245,14 @@ def pair_values(rng, style, z, setting):
         'flat': lambda n: (base, rng.randint(0, FIGURE)),
         'low': lambda n: (max(0, z) + rng.choice((-1, 0, 0, 0, 1)), y()),
         'none': lambda n: (rng.randint(0, FIGURE), rng.choice((0, 0, 1))),
-        'edge': edge,
-        'square': lambda n: rng.choice(((40_000, FIGURE), (0, 0), flat)),
+        'square': lambda n: rng.choice(((40_000, FIGURE), (0, 0), (0, 0))),
     }[style]
 
 
 # Pairs all alike. With Z 0 the first two give halves in B, the next tops that values make halves of
 SAME = ((FIGURE, 2), (40_000, 1), (35, 35), (460, 460), (56, 56), (20, 20), (11, 11), (1, 2),
         (2_000, 1_000))
-STYLES = ('line',) * 5 + ('ratio',) * 4 + ('same', 'same', 'flat', 'low', 'none', 'edge', 'square')
+STYLES = ('line',) * 5 + ('ratio',) * 4 + ('same', 'same', 'flat', 'low', 'none', 'square')
 # D's, in parts of k, of which Q is all that a calibration at sigma 10,000 may have
 EXACT = {15: (1, 2, -3), 17: (2, -2, 2, -2), 19: (3, -3), 25: (2, 2, -4)}
 
@@ -302,6 +297,13 @@ def verdict_values(w, wanted, z):
     return values(at_flip(rng, 0, 10**6, passes))
 
 
+def slope_values(w):
+    """Fifteen values of which, with Z 0, B is at 1,000,000 or at 1, or up to a step off."""
+    y, more = w.rng.choice(((133_333, w.rng.randint(4, 8)), (0, w.rng.randint(0, 3))))
+    at = Conditions(0, 0, 0, w.history.setting.oxygen)
+    return [(200_000, y + more, at)] + [(0, y, at)] * 14
+
+
 def far_values(w, wanted):
     """Values nine times their signals, the last in conditions that raise it very much."""
     xs = [w.rng.randint(1_000, 44_000) for _ in range(wanted - 1)]
@@ -329,9 +331,12 @@ def calibration(w):
     z = rng.choice((0, 0, 0, 100, -10_000, 10_000, rng.randint(-9999, 9999)))
     wanted = rng.choice(COUNTS + (15, 15, 15, 15, 16, 17, 18, rng.randint(0, 31)))
     values, style = drawn_values(w, z), rng.random()
-    if wanted in COUNTS and style < 0.2:
-        planned = verdict_values(w, wanted, z) if style < 0.12 else far_values(w, wanted)
-        values = planned.__getitem__
+    if wanted in COUNTS and style < 0.12:
+        values = verdict_values(w, wanted, z).__getitem__
+    elif wanted in COUNTS and style < 0.2:
+        values = far_values(w, wanted).__getitem__
+    elif wanted == 15 and style < 0.3:
+        values, z = slope_values(w).__getitem__, 0
     put_pairs(w, wanted, rng.choice((100, 40, 300, 600, 1300, 1400)), values)
     if len(w.history.pairs) == 30 and rng.random() < 0.2:
         put_pair(w, values(0), 100, None, 0.5)
@@ -414,7 +419,7 @@ def put_closing(w, kind, z):
     if row:
         numbers = (z, 1, 0, 1, 15) if kind == CALIBRATION else (5,)
         record = record_bytes(kind, rng.choice(KINDS[kind].marks), minute, *numbers)
-        w.put(record, 0.1 if row in (20, 21) else 0.3)
+        w.put(record, 0.1 if row in (20, 21) else 0.6)
     elif draw > 0.94:
         w.put(bent(rng, record), 0.3)
     else:
@@ -778,7 +783,7 @@ def files(rng):
         if not blocks:
             continue
         yield b''.join(blocks)
-        for _ in range(rng.choice((2, 4, 6))):
+        for _ in range(rng.choice((1, 2, 4))):
             yield b''.join(rng.choice(DAMAGES)(rng, blocks))
         if rng.random() < 0.01:
             yield b''.join(garbage(rng, blocks))
