@@ -7,7 +7,7 @@ the word `outside`, for numbers that a call is not made for.
 from model import (ANNUAL_COUNTS, BLOCK, CALIBRATION, CONDITIONS, COUNTS, HEAD, HIGHEST_SLOPE,
                    KINDS, LAST_NUMBER, NO_FIGURES, NO_PLACE, PAIR, PLACES, READINGS, RECORD,
                    SETTING, Basis, Chart, Conditions, Function, Pair, Standing, alarms_of,
-                   annual_mark, applied, calibrated, calibrates_as, chart_read, check,
+                   annual_mark, applied, calibrated, calibrates_as, chart_read, check_by_bits,
                    formed_block, in_standard, lent_list, made_closing, near, record_bytes,
                    record_of, record_row, report_line, s_of, sealed, six_alarms, taken_run,
                    usable)
@@ -447,7 +447,7 @@ def tell_edition(d, edition):
 
 
 def check_text(d, text):
-    d.write('%s: check %04x' % (text, check(text.encode())))
+    d.write('%s: check %04x' % (text, check_by_bits(text.encode())))
 
 
 COMMANDS = {
