@@ -716,6 +716,14 @@ def moved(rng, blocks):
     return out
 
 
+def foreign(rng, blocks):
+    """A block of another file, at times with this one's analyser and the number that is due."""
+    i, other = rng.randrange(len(blocks) + 1), rng.choice(valid_blocks(rng) or blocks)
+    if rng.random() < 0.5:
+        other = resealed(blocks[0][:4] + i.to_bytes(4, 'little') + other[8:])
+    return blocks[:i] + [other] + blocks[i:]
+
+
 def rewritten(rng, blocks, change):
     """The same with the records of one block changed, all of them with a right check."""
     def block(b):
@@ -772,8 +780,9 @@ def garbage(rng, blocks):
 
 
 DAMAGES = (flipped, spoiled, spoiled, spoiled, headed, headed, numbered, cut, lengthened, doubled,
-           missing, moved, record_doubled, record_missing, record_bent, record_bent, record_bent,
-           record_edged, record_edged, record_edged, edition_from, edition_from)
+           missing, moved, foreign, foreign, record_doubled, record_missing, record_bent,
+           record_bent, record_bent, record_edged, record_edged, record_edged, edition_from,
+           edition_from)
 
 
 def files(rng):
