@@ -376,7 +376,7 @@ def annual_values(w, wanted):
         return row == 0 and mark & part != 0
 
     out = values(at_flip(rng, 0, 10**6, holds))
-    if rng.random() < 0.1:
+    if rng.random() < 0.3:
         x, y, far = far_pair(w)
         x = (y * 100_000 - h.function.intercept) // h.function.slope
         out[0] = x + rng.choice((0, 0, 1)), y, far
