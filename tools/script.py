@@ -94,15 +94,12 @@ def read_one(d, s, difference):
 
 
 def write_chart(d, name, s):
-    d.write('%s %s' % (name, chart_figures(d.chart, s)))
+    d.write('%s %s' % (name, chart_figures(d.chart, unsigned(s))))
 
 
-def go_on(d, name, s, *differences):
-    s = unsigned(s)
+def more(d, name, s, *differences):
     for v in map(signed, differences):
-        read_one(d, s, v)
-        write_chart(d, name, s)
-    if not differences:
+        read_one(d, unsigned(s), v)
         write_chart(d, name, s)
 
 
@@ -112,8 +109,7 @@ def reset(d):
 
 def series(d, name, s, *differences):
     reset(d)
-    if differences:
-        go_on(d, name, s, *differences)
+    more(d, name, s, *differences)
 
 
 def fill(d, times, s, *differences):
@@ -170,9 +166,9 @@ def function_taken(slope, intercept):
     return 1 <= slope <= HIGHEST_SLOPE and abs(intercept) <= HIGHEST_INTERCEPT
 
 
-def write_value(d, x, *words):
-    x, at, oxygen = signed(x), conditions_of(words[:4]), signed(words[4])
-    slope, intercept = map(long, words[5:])
+def write_value(d, x, slope, intercept, *words):
+    x, slope, intercept = signed(x), long(slope), long(intercept)
+    at, oxygen = conditions_of(words[:4]), signed(*words[4:])
     takes = within(x, FIGURE) and in_ranges(at, CONDITIONS) and within(oxygen, OXYGEN) \
         and function_taken(slope, intercept)
     text = 'outside'
@@ -198,10 +194,10 @@ def first_pairs(d, n):
     return (d.pairs + d.pairs[-1:] * n)[:n]
 
 
-def set_pair(d, i, x, y):
-    i = whole(i, 0, 10**6)
-    d.pairs = first_pairs(d, max(i + 1, len(d.pairs)))
-    d.pairs[i] = signed(x), signed(y)
+def set_pair(d, n, x, y):
+    n = whole(n, 1, 10**6)
+    d.pairs = first_pairs(d, max(n, len(d.pairs)))
+    d.pairs[n - 1] = signed(x), signed(y)
 
 
 def lent_pairs(d, n):
@@ -210,10 +206,10 @@ def lent_pairs(d, n):
             for i, (x, y) in enumerate(first_pairs(d, n))]
 
 
-def pairs_taken(pairs, basis):
-    """What a fit of a list and an annual test ask for, beside Z and the function."""
-    ranges = KINDS[SETTING].ranges
-    return len(pairs) <= 30 and in_ranges(basis, (ranges[0], ranges[1], ranges[4])) \
+def pairs_taken(pairs, sigma, oxygen):
+    """What a fit of a list and an annual test ask for, beside E and Z or the function."""
+    return len(pairs) <= 30 and within(sigma, KINDS[SETTING].ranges[1]) \
+        and within(oxygen, OXYGEN) \
         and all(in_ranges(p[2:8], KINDS[PAIR].ranges[2:]) for p in pairs)
 
 
@@ -229,7 +225,9 @@ def fit(d, name, n, *words):
     n, (*basis, z) = unsigned(n), map(signed, words)
     basis, pairs = Basis(*basis), lent_pairs(d, n)
     text = 'outside'
-    if pairs_taken(pairs, basis) and within(z, KINDS[CALIBRATION].ranges[0]):
+    if pairs_taken(pairs, basis.sigma, basis.oxygen) \
+            and within(basis.limit, KINDS[SETTING].ranges[0]) \
+            and within(z, KINDS[CALIBRATION].ranges[0]):
         counted = n in COUNTS
         answer = calibrates_as(pairs, basis, z, d.edition) if counted else (20, None)
         text = figures_text(*answer)
@@ -243,17 +241,17 @@ def lent(d, name, n, *words):
     d.write(fit_head(name, n, basis, z) + figures_text(row, figures))
 
 
-def annual(d, name, n, *words):
-    n, (*basis, slope, intercept) = unsigned(n), map(long, words)
-    basis, pairs = Basis(*basis), lent_pairs(d, n)
+def annual(d, name, limit, n, *words):
+    n, (sigma, oxygen, slope, intercept) = unsigned(n), map(long, words)
+    basis, pairs = Basis(signed(limit), sigma, oxygen), lent_pairs(d, n)
     text = 'outside'
-    if pairs_taken(pairs, basis) and function_taken(slope, intercept):
+    if pairs_taken(pairs, sigma, oxygen) and function_taken(slope, intercept):
         function = Function(slope, intercept, 0, 0)
         row, mark = annual_mark(pairs, basis, function, d.edition) \
             if n in ANNUAL_COUNTS else (20, None)
         text = 'refusal %d variability %d function %d' % (row, (mark or 0) & 1, (mark or 0) >> 1)
     d.write('%s n %d sigma %d reference %d B %d A %d %s' % (
-        name, n, basis.sigma, basis.oxygen, slope, intercept, text))
+        name, n, sigma, oxygen, slope, intercept, text))
 
 
 def left_by_calls(st):
@@ -456,10 +454,11 @@ COMMANDS = {
     'clear': clear, 'form': form_block, 'make': make_closing, 'bytes': target_bytes,
     'take': take, 'poke': poke, 'seal': seal, 'expect': expect, 'edition': tell_edition,
     'open': open_block,
-    'near': write_near, 'unsigned': write_unsigned, 'series': series, 'chart': go_on,
-    'fill': fill, 'reset': reset, 'unstarted': unstarted, 'stop': stop, 'sound': sound,
-    'standard': write_standard, 'value': write_value, 'conditions': set_conditions,
-    'pairs': set_pairs, 'pair': set_pair, 'fit': fit, 'lent': lent, 'annual': annual,
+    'near': write_near, 'unsigned': write_unsigned, 'series': series, 'more': more,
+    'fill': fill, 'chart': write_chart, 'reset': reset, 'unstarted': unstarted, 'stop': stop,
+    'sound': sound, 'standard': write_standard, 'value': write_value,
+    'conditions': set_conditions, 'pairs': set_pairs, 'pair': set_pair, 'fit': fit,
+    'lent': lent, 'annual': annual,
 }
 TEXTS = {'case': begin_case, 'try': try_record, 'check': check_text}     # the rest is one text
 
