@@ -12,7 +12,7 @@ from model import (ANNUAL, ANNUAL_COUNTS, BLOCK, CALIBRATION, CONDITIONS, COUNTS
                    calibrates_as, closing_bytes, in_standard, record_bytes, record_of, record_row,
                    s_of, sealed, start_of)
 
-FIGURE = 400_000
+HIGHEST = 400_000                 # signal, SRM value, reading and reference
 I32 = (-2**31, 2**31 - 1)
 
 
@@ -102,7 +102,7 @@ def about(rng, ends):
 
 def first_setting(w):
     rng = w.rng
-    limit = rng.choice((100, 1000, 10_000, 66_470, FIGURE, inside(rng, (100, FIGURE))))
+    limit = rng.choice((100, 1000, 10_000, 66_470, HIGHEST, inside(rng, (100, HIGHEST))))
     sigma = rng.choice((1, 10, 500, 10000, rng.randint(1, 10000)))
     s = [rng.choice((1, 2, 5, 10, 44, 100, 1000, 10000, rng.randint(1, 300))) for _ in range(2)]
     oxygen = rng.choice((0, 1100, 1800, rng.randint(0, 1800)))
@@ -134,8 +134,8 @@ def difference(w, chart, s):
 def reading_of(w, mark, d, minute):
     """A reading whose difference is d, as far as there is room for it."""
     reference = w.rng.choice((0, 0, 500, max(0, -d), w.rng.randint(0, 3000)))
-    d = max(-2 * FIGURE, min(FIGURE, d))
-    reference = max(0, min(reference, FIGURE - d), -d - FIGURE)
+    d = max(-2 * HIGHEST, min(HIGHEST, d))
+    reference = max(0, min(reference, HIGHEST - d), -d - HIGHEST)
     return record_bytes(READING, mark, minute, d + reference, reference)
 
 
@@ -158,7 +158,7 @@ def later(w, most):
 
 
 def clamped(v):
-    return max(0, min(FIGURE, v))
+    return max(0, min(HIGHEST, v))
 
 
 def at_flip(rng, low, high, test):
@@ -221,7 +221,7 @@ def put_pairs(w, wanted, gap, values):
 
 def narrow_pairs(rng, limit):
     """SRM values that lie closer together than 15 percent of the limit, or as much apart."""
-    base, apart = rng.randint(1, FIGURE // 4), 15 * limit // 100
+    base, apart = rng.randint(1, HIGHEST // 4), 15 * limit // 100
     width = rng.choice((0, 1, apart // 2, apart - 1, apart, apart + 1))
     return lambda: base + rng.choice((0, width, rng.randint(0, max(0, width))))
 
@@ -230,8 +230,8 @@ def pair_values(rng, style, z, setting):
     """A drawing of (signal, SRM value) for the pairs of one calibration, each by its place."""
     slope = rng.choice((1.0, 1.0, 1.0, 0.1, 1.1, 5.0, 9.99, 10.01, 0.00001, rng.random() * 3))
     noise = int(setting.sigma * rng.choice((0, 0.3, 0.9, 1.5, 1.7, 2)))
-    most = min(FIGURE // 4, int(FIGURE / (slope + 1)))
-    base, y = rng.randint(1, FIGURE // 4), narrow_pairs(rng, setting.limit)
+    most = min(HIGHEST // 4, int(HIGHEST / (slope + 1)))
+    base, y = rng.randint(1, HIGHEST // 4), narrow_pairs(rng, setting.limit)
     same = rng.choice(SAME + ((base, base), (base, base // 2)))
 
     def line(n):
@@ -242,15 +242,15 @@ def pair_values(rng, style, z, setting):
         'line': line,
         'ratio': lambda n: (z + base + rng.randint(0, 9), y()),
         'same': lambda n: same,
-        'flat': lambda n: (base, rng.randint(0, FIGURE)),
+        'flat': lambda n: (base, rng.randint(0, HIGHEST)),
         'low': lambda n: (max(0, z) + rng.choice((-1, 0, 0, 0, 1)), y()),
-        'none': lambda n: (rng.randint(0, FIGURE), rng.choice((0, 0, 1))),
-        'square': lambda n: rng.choice(((40_000, FIGURE), (0, 0), (0, 0))),
+        'none': lambda n: (rng.randint(0, HIGHEST), rng.choice((0, 0, 1))),
+        'square': lambda n: rng.choice(((40_000, HIGHEST), (0, 0), (0, 0))),
     }[style]
 
 
 # Pairs all alike. With Z 0 the first two give halves in B, the next tops that values make halves of
-SAME = ((FIGURE, 2), (40_000, 1), (35, 35), (460, 460), (56, 56), (20, 20), (11, 11), (1, 2),
+SAME = ((HIGHEST, 2), (40_000, 1), (35, 35), (460, 460), (56, 56), (20, 20), (11, 11), (1, 2),
         (2_000, 1_000))
 STYLES = ('line',) * 5 + ('ratio',) * 4 + ('same', 'same', 'flat', 'low', 'none', 'square')
 # D's, in parts of k, of which Q is all that a calibration at sigma 10,000 may have
@@ -263,7 +263,7 @@ def far_pair(w):
     for _ in range(300):
         at = Conditions(rng.randint(20_000, 50_000), rng.randint(-2_000, 0),
                         rng.randint(3_000, 5_000), rng.randint(1_500, 1_800))
-        y = clamped(FURTHEST * FIGURE // max(1, in_standard(FIGURE, at, oxygen, w.edition)))
+        y = clamped(FURTHEST * HIGHEST // max(1, in_standard(HIGHEST, at, oxygen, w.edition)))
         if 0 <= in_standard(y, at, oxygen, w.edition) - FURTHEST <= 1:
             break
     return y // 9 + rng.choice((-1, 0, 0, 1)), y, at
@@ -283,7 +283,7 @@ def verdict_values(w, wanted, z):
     at, basis = w.conditions(), basis_of(h.setting)
     if wanted in EXACT and basis.sigma == 10_000 and basis.limit > 330_000:
         return exact_values(w, wanted)
-    xs = [rng.randint(max(0, z) + 10, FIGURE // 4) for _ in range(wanted)]
+    xs = [rng.randint(max(0, z) + 10, HIGHEST // 4) for _ in range(wanted)]
     noise = [rng.randint(-8 * basis.sigma, 8 * basis.sigma) for _ in xs]
 
     def values(t):
@@ -357,7 +357,7 @@ def annual_values(w, wanted):
     """Values that just hold, or just don't, one of the annual test's two parts."""
     rng, h = w.rng, w.history
     at, basis = w.conditions(), basis_of(h.setting)
-    xs = [rng.randint(0, FIGURE // 4) for _ in range(wanted)]
+    xs = [rng.randint(0, HIGHEST // 4) for _ in range(wanted)]
     lines = [(h.function.intercept + h.function.slope * x) // 100_000 for x in xs]
     noise = [rng.randint(-8 * basis.sigma, 8 * basis.sigma) for _ in xs]
     part, sign = rng.choice((1, 2)), rng.choice((1, -1))
@@ -438,13 +438,13 @@ def half_value(w):
     wanted = 2 * f.top + 1
     if (wanted * 50_000 - f.intercept) % f.slope == 0:
         x = (wanted * 50_000 - f.intercept) // f.slope
-        if 0 <= x <= FIGURE and w.rng.random() < 0.3:
+        if 0 <= x <= HIGHEST and w.rng.random() < 0.3:
             return x, Conditions(0, 0, 0, oxygen)
     for _ in range(30):
         v = w.rng.randint(f.top // 3, 3 * f.top + 2)
         if (v * 100_000 - f.intercept) % f.slope == 0:
             x, at = (v * 100_000 - f.intercept) // f.slope, half_ways(w.rng, oxygen, v, wanted)
-            if at and 0 <= x <= FIGURE:
+            if at and 0 <= x <= HIGHEST:
                 return x, at
     return None
 
@@ -471,7 +471,7 @@ def edge_signal(w, at, outside):
         c = calibrated(x, at, f, h.setting.oxygen, w.edition)
         return c > f.top if over else c >= 0
 
-    low, high = 0, FIGURE
+    low, high = 0, HIGHEST
     while high - low > 1:
         middle = (low + high) // 2
         low, high = (low, middle) if c_is_beyond(middle) else (middle, high)
@@ -487,7 +487,7 @@ def put_value(w, outside, minute):
     elif w.halves:
         x, at = rng.choice(w.halves)
     else:
-        x = edge_signal(w, at, outside) if rng.random() < 0.9 else rng.randint(0, FIGURE)
+        x = edge_signal(w, at, outside) if rng.random() < 0.9 else rng.randint(0, HIGHEST)
     return w.put(record_bytes(VALUE, mark, minute, x, *at))
 
 
