@@ -90,10 +90,10 @@ impl<R: Print> Script<'_, R> {
 // The edition in which the lines above are run again.
 fn again(line: &[u8]) -> Option<u8> {
     let (word, edition) = first_word(line);
-    if word != b"again".as_slice() {
-        return None;
+    match word_of(word)? {
+        Word::Again => u8::try_from(unsigned(edition)?).ok(),
+        _ => None,
     }
-    u8::try_from(unsigned(edition)?).ok()
 }
 
 pub fn run(rt: &(impl Print + Input)) -> io::Result<()> {

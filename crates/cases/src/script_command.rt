@@ -2,7 +2,8 @@
 
 #[derive(Clone, Copy)]
 pub enum Word {
-    // lines that have no numbers
+    // lines that have no numbers, or not only
+    Again,
     Case,
     Try,
     Check,
@@ -51,7 +52,8 @@ pub enum Word {
     Bytes,
 }
 
-static WORDS: [(&[u8], Word); 42] = [
+static WORDS: [(&[u8], Word); 43] = [
+    (b"again", Word::Again),
     (b"case", Word::Case),
     (b"try", Word::Try),
     (b"check", Word::Check),

@@ -56,13 +56,9 @@ fn row_and_place(refused: Option<Refused>) -> (u32, u8) {
     }
 }
 
-// The size of a target, and how many bytes are left out, 0 if it is not told.
-fn size_and_less(numbers: &[i64]) -> Option<(usize, usize)> {
-    match numbers {
-        [size] => Some((usize::try_from(*size).ok()?, 0)),
-        [size, less] => Some((usize::try_from(*size).ok()?, usize::try_from(*less).ok()?)),
-        _ => None,
-    }
+// The first `size` bytes of a target.
+fn asked(target: &mut [u8; TARGET], size: i64) -> Option<&mut [u8]> {
+    target.get_mut(..usize::try_from(size).ok()?)
 }
 
 // The check of some bytes.
@@ -145,14 +141,15 @@ impl<'a, R: Print> Desk<'a, R> {
                 self.formed = 0;
                 Some(Ok(()))
             }
-            (Word::Form, [sizes @ ..]) => {
-                let (size, less) = size_and_less(sizes)?;
-                Some(self.form(edition, size, less))
-            }
-            (Word::Make, [kind, minute, z, sizes @ ..]) => {
-                let (size, less) = size_and_less(sizes)?;
+            (Word::Form, [size]) => Some(self.form(edition, *size, 0)),
+            (Word::Form, [size, less]) => Some(self.form(edition, *size, *less)),
+            (Word::Make, [kind, minute, z, size]) => {
                 let closing = script_record::closing_of(*kind, *minute, *z)?;
-                Some(self.make(edition, closing, size, less))
+                Some(self.make(edition, closing, *size, 0))
+            }
+            (Word::Make, [kind, minute, z, size, less]) => {
+                let closing = script_record::closing_of(*kind, *minute, *z)?;
+                Some(self.make(edition, closing, *size, *less))
             }
             (Word::Take, [size]) => Some(self.take(usize::try_from(*size).ok()?)),
             (Word::Poke, [at, byte]) => {
@@ -200,16 +197,19 @@ impl<'a, R: Print> Desk<'a, R> {
     }
 
     // The listed bytes, but for their last `less`.
-    fn listed(&self, less: usize) -> Option<&[u8]> {
+    fn listed(&self, less: i64) -> Option<&[u8]> {
         let list = self.list.as_slice();
-        list.get(..list.len().checked_sub(less)?)
+        list.get(..list.len().checked_sub(usize::try_from(less).ok()?)?)
     }
 
     // A block of the listed records, but for their last `less` bytes, in a target of `size` bytes. A block that was formed goes behind the run, and the
     // list is empty.
-    fn form(&mut self, edition: u8, size: usize, less: usize) -> io::Result<()> {
+    fn form(&mut self, edition: u8, size: i64, less: i64) -> io::Result<()> {
         let mut target = [FILL; TARGET];
-        let (Some(bytes), Some(asked)) = (self.listed(less), target.get_mut(..size)) else {
+        let Some(bytes) = self.listed(less) else {
+            return self.no_room();
+        };
+        let Some(asked) = asked(&mut target, size) else {
             return self.no_room();
         };
         let answer = file::append(self.state, edition, bytes, asked);
@@ -230,9 +230,12 @@ impl<'a, R: Print> Desk<'a, R> {
 
     // A closing after the listed records, but for their last `less` bytes, in a target of `size` bytes. One that was made is the prepared record.
     // Like `form`, and no shorter with what they share in a function that takes the call.
-    fn make(&mut self, edition: u8, closing: Closing, size: usize, less: usize) -> io::Result<()> {
+    fn make(&mut self, edition: u8, closing: Closing, size: i64, less: i64) -> io::Result<()> {
         let mut target = [FILL; TARGET];
-        let (Some(bytes), Some(asked)) = (self.listed(less), target.get_mut(..size)) else {
+        let Some(bytes) = self.listed(less) else {
+            return self.no_room();
+        };
+        let Some(asked) = asked(&mut target, size) else {
             return self.no_room();
         };
         let answer = file::make_closing(self.state, edition, bytes, closing, asked);

@@ -2,22 +2,30 @@
 use arrayvec::ArrayVec;
 use file::Closing;
 
-// The forty bytes of a record: kind, mark and minute, and the fields from byte 8 on, of four bytes each, but of eight for the intercept of a calibration
-// closing.
-pub fn record_of(kind: i64, mark: i64, minute: i64, fields: &[i64]) -> Option<[u8; 40]> {
-    let mut bytes = ArrayVec::<u8, 40>::new();
-    let head = [u8::try_from(kind).ok()?, u8::try_from(mark).ok()?, 0, 0];
-    bytes.try_extend_from_slice(&head).ok()?;
-    let minute = u32::try_from(minute).ok()?.to_le_bytes();
-    bytes.try_extend_from_slice(&minute).ok()?;
+// The bytes of the fields: four of each, but eight of the intercept of a calibration closing.
+fn field_bytes(kind: i64, fields: &[i64]) -> Option<ArrayVec<u8, 32>> {
+    let mut all = ArrayVec::new();
     for (i, field) in fields.iter().enumerate() {
-        let width = if kind == 5 && i == 2 { 8 } else { 4 };
-        let field = field.to_le_bytes();
-        bytes.try_extend_from_slice(&field[..width]).ok()?;
+        let bytes = field.to_le_bytes();
+        all.try_extend_from_slice(&bytes[..4]).ok()?;
+        if kind == 5 && i == 2 {
+            all.try_extend_from_slice(&bytes[4..]).ok()?;
+        }
     }
+    Some(all)
+}
+
+// The forty bytes of a record: kind, mark and minute, and the fields from byte 8 on.
+pub fn record_of(kind: i64, mark: i64, minute: i64, fields: &[i64]) -> Option<[u8; 40]> {
+    let minute = u32::try_from(minute).ok()?;
+    let fields = field_bytes(kind, fields)?;
     let mut record = [0; 40];
-    let start = record.get_mut(..bytes.len())?;
-    start.copy_from_slice(bytes.as_slice());
+    record[0] = u8::try_from(kind).ok()?;
+    record[1] = u8::try_from(mark).ok()?;
+    record[4..8].copy_from_slice(&minute.to_le_bytes());
+    for (place, byte) in record[8..].iter_mut().zip(fields.as_slice()) {
+        *place = *byte;
+    }
     Some(record)
 }
 
