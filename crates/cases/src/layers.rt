@@ -1,5 +1,4 @@
-// The commands of the layers below the records: rounding, charts and calibration. None is answered where a line is not one that the head of the script
-// describes.
+// The commands of the layers below the records: rounding, charts and calibration. Each is None where the numbers of its line are not those that it takes.
 use crate::listed_pairs::Listed;
 use crate::script_command::Word;
 use crate::script_words::{first_word, fixed, unsigned};
@@ -122,16 +121,17 @@ impl<'a, R: Print> Layers<'a, R> {
         Some(calls::value_line(self.rt, b"value", &labels, numbers, value))
     }
 
-    // The pairs that are listed, with the conditions that are told.
+    // The list of pairs, and the conditions that they are listed with.
     pub fn list(&mut self, word: Word, numbers: &[i64]) -> Option<io::Result<()>> {
         match (word, numbers) {
             (Word::Pairs, _) => self.listed.list(numbers)?,
             (Word::Pair, [n, x, y]) => self.listed.change(usize::try_from(*n).ok()?, *x, *y)?,
-            _ => {
+            (Word::Conditions, _) => {
                 let [t, p, h, o, t2, p2, h2, o2] = fixed::<8>(numbers)?;
                 self.listed.first = conditions_of([t, p, h, o]);
                 self.listed.others = conditions_of([t2, p2, h2, o2]);
             }
+            _ => return None,
         }
         Some(Ok(()))
     }

@@ -165,7 +165,7 @@ impl<'a, R: Print> Desk<'a, R> {
         }
     }
 
-    // The record so many times, each so many minutes after the one before, up to the first that is refused.
+    // The record a number of times, each some minutes after the one before, up to the first that is refused.
     fn apply(&mut self, times: i64, apart: u32) -> io::Result<()> {
         for _ in 0..times {
             match step(self.state, &self.record) {
