@@ -1,6 +1,6 @@
 // How values are printed.
 use charts::Alarms;
-use std::fmt;
+use std::{fmt, io};
 
 // A value, or a word for none.
 #[derive(Drop)]
@@ -26,4 +26,13 @@ impl fmt::Display for Flags {
         }
         Ok(())
     }
+}
+
+// A name, and numbers, each behind its label.
+pub fn labelled(rt: &impl Print, name: &[u8], labels: &[&str], numbers: &[i64]) -> io::Result<()> {
+    rt.write_all(name)?;
+    for (label, n) in labels.iter().zip(numbers) {
+        print!(rt; "{label}{n}")?;
+    }
+    Ok(())
 }

@@ -1,8 +1,9 @@
-// Runs the script on standard input, the file `stdin`, whose head says what its commands do. A line that is no command, or has other
-// numbers than its command takes, is answered by `unknown`.
-use crate::script_command::command_of;
+// Runs the script on standard input, the file `stdin`, whose head says what its commands do. A line that is no command, or has other numbers than its
+// command takes, is answered by `unknown`.
+use crate::layers::Layers;
+use crate::script_command::{Word, word_of};
 use crate::script_desk::{self, Desk};
-use crate::script_words::{first_word, numbers};
+use crate::script_words::{first_word, numbers, unsigned};
 use arrayvec::ArrayVec;
 use std::io;
 use std::io::Read;
@@ -10,24 +11,88 @@ use std::io::Read;
 // A script is shorter than this.
 const LIMIT: usize = 262144;
 
-fn line<R: Print>(rt: &R, desk: &mut Desk<'_, R>, text: &[u8]) -> io::Result<()> {
-    let (word, rest) = first_word(text);
-    match word {
-        [] | [b'#', ..] => return Ok(()),
-        b"case" => {
-            rt.write_all(rest)?;
-            return print!(rt; ":");
-        }
-        b"try" => return desk.attempt(rest),
-        b"check" => return script_desk::show_check(rt, rest),
-        _ => {}
+#[derive(Drop)]
+struct Script<'a, R> {
+    rt: &'a R,
+    layers: Layers<'a, R>,
+    desk: Desk<'a, R>,
+}
+
+impl<R: Print> Script<'_, R> {
+    fn title(&self, title: &[u8]) -> io::Result<()> {
+        self.rt.write_all(title)?;
+        print!(self.rt; ":")
     }
-    let Some(numbers) = numbers(rest) else {
-        return println!(rt; "unknown");
-    };
-    match command_of(word, numbers.as_slice()) {
-        Some(command) => desk.obey(command),
-        None => println!(rt; "unknown"),
+
+    // None where the line is no command.
+    fn obey(&mut self, word: Word, text: &[u8]) -> Option<io::Result<()>> {
+        match word {
+            Word::Case => return Some(self.title(text)),
+            Word::Try => return Some(self.desk.attempt(text)),
+            Word::Check => return Some(script_desk::show_check(self.rt, text)),
+            Word::Unsigned => return self.layers.unsigned(text),
+            _ => {}
+        }
+        if word.has_name() {
+            let (name, text) = first_word(text);
+            self.named(word, name, numbers(text)?.as_slice())
+        } else {
+            self.numbered(word, numbers(text)?.as_slice())
+        }
+    }
+
+    fn named(&mut self, word: Word, name: &[u8], numbers: &[i64]) -> Option<io::Result<()>> {
+        match word {
+            Word::Fit | Word::Lent => self.layers.fit(word, name, numbers),
+            Word::Annual => self.layers.annual(name, numbers),
+            _ => self.layers.charts(word, name, numbers),
+        }
+    }
+
+    fn numbered(&mut self, word: Word, numbers: &[i64]) -> Option<io::Result<()>> {
+        match word {
+            Word::Near => self.layers.near(numbers),
+            Word::Unstarted | Word::Reset | Word::Stop | Word::Fill => {
+                self.layers.charts(word, &[], numbers)
+            }
+            Word::Standard => self.layers.standard(numbers),
+            Word::Value => self.layers.value(numbers),
+            Word::Conditions | Word::Pairs | Word::Pair => self.layers.list(word, numbers),
+            Word::Edition => self.layers.tell(numbers),
+            Word::List
+            | Word::Clear
+            | Word::Form
+            | Word::Make
+            | Word::Take
+            | Word::Poke
+            | Word::Seal
+            | Word::Bytes => self.desk.obey_file(self.layers.edition, word, numbers),
+            _ => self.desk.obey(word, numbers),
+        }
+    }
+
+    fn line(&mut self, line: &[u8]) -> io::Result<()> {
+        let (word, text) = first_word(line);
+        if word.is_empty() || word.starts_with(b"#") {
+            return Ok(());
+        }
+        let done = match word_of(word) {
+            Some(word) => self.obey(word, text),
+            None => None,
+        };
+        match done {
+            Some(done) => done,
+            None => println!(self.rt; "unknown"),
+        }
+    }
+}
+
+// The edition in which the lines above are run again.
+fn again(line: &[u8]) -> Option<u8> {
+    let (word, edition) = first_word(line);
+    match word_of(word)? {
+        Word::Again => u8::try_from(unsigned(edition)?).ok(),
+        _ => None,
     }
 }
 
@@ -37,9 +102,21 @@ pub fn run(rt: &(impl Print + Input)) -> io::Result<()> {
     if script.is_full() {
         return println!(rt; "the script is too long");
     }
-    let mut desk = Desk::new(rt);
-    for text in script.as_slice().split(|b| *b == b'\n') {
-        line(rt, &mut desk, text)?;
+    let mut run = Script {
+        rt,
+        layers: Layers::new(rt),
+        desk: Desk::new(rt),
+    };
+    for (i, line) in script.as_slice().split(|b| *b == b'\n').enumerate() {
+        let Some(edition) = again(line) else {
+            run.line(line)?;
+            continue;
+        };
+        println!(rt; "edition {edition}")?;
+        run.layers.edition = edition;
+        for line in script.as_slice().split(|b| *b == b'\n').take(i) {
+            run.line(line)?;
+        }
     }
     Ok(())
 }

@@ -1,106 +1,124 @@
-// The commands of the script that take numbers, or nothing.
-use crate::script_record;
-use file::Closing;
+// The words of the script.
 
 #[derive(Clone, Copy)]
-pub enum Command {
-    New(u32),
-    Record([u8; 40]),
-    Byte(usize, u8),
-    Apply { times: u64, apart: u64 },
+pub enum Word {
+    // lines that have no numbers, or not only
+    Again,
+    Case,
+    Try,
+    Check,
+    // rounding and charts
+    Near,
+    Unsigned,
+    Unstarted,
+    Reset,
+    Stop,
+    Series,
+    More,
+    Chart,
+    Fill,
+    Sound,
+    // calibration
+    Standard,
+    Value,
+    Conditions,
+    Pairs,
+    Pair,
+    Fit,
+    Lent,
+    Annual,
+    // records
+    New,
+    Record,
+    Byte,
+    Apply,
     Keep,
     Back,
-    List,
-    Clear,
-    Form { size: u64, less: u64 },
-    Make(Closing, u64, u64),
-    Take(u64),
-    Poke(u64, u64),
-    Seal(u64),
-    Expect(u32),
-    Edition(u8),
-    Open(u8),
-    Bytes { from: u64, to: u64 },
+    Expect,
+    Edition,
+    Open,
     Show,
     Charts,
     Report,
     End,
+    // blocks
+    List,
+    Clear,
+    Form,
+    Make,
+    Take,
+    Poke,
+    Seal,
+    Bytes,
 }
 
-// The commands with no numbers.
-fn command_of_none(word: &[u8]) -> Option<Command> {
-    match word {
-        b"apply" => Some(Command::Apply { times: 1, apart: 0 }),
-        b"keep" => Some(Command::Keep),
-        b"back" => Some(Command::Back),
-        b"list" => Some(Command::List),
-        b"clear" => Some(Command::Clear),
-        b"show" => Some(Command::Show),
-        b"charts" => Some(Command::Charts),
-        b"report" => Some(Command::Report),
-        b"end" => Some(Command::End),
-        _ => None,
-    }
-}
+static WORDS: [(&[u8], Word); 43] = [
+    (b"again", Word::Again),
+    (b"case", Word::Case),
+    (b"try", Word::Try),
+    (b"check", Word::Check),
+    (b"near", Word::Near),
+    (b"unsigned", Word::Unsigned),
+    (b"unstarted", Word::Unstarted),
+    (b"reset", Word::Reset),
+    (b"stop", Word::Stop),
+    (b"series", Word::Series),
+    (b"more", Word::More),
+    (b"chart", Word::Chart),
+    (b"fill", Word::Fill),
+    (b"sound", Word::Sound),
+    (b"standard", Word::Standard),
+    (b"value", Word::Value),
+    (b"conditions", Word::Conditions),
+    (b"pairs", Word::Pairs),
+    (b"pair", Word::Pair),
+    (b"fit", Word::Fit),
+    (b"lent", Word::Lent),
+    (b"annual", Word::Annual),
+    (b"new", Word::New),
+    (b"record", Word::Record),
+    (b"byte", Word::Byte),
+    (b"apply", Word::Apply),
+    (b"keep", Word::Keep),
+    (b"back", Word::Back),
+    (b"expect", Word::Expect),
+    (b"edition", Word::Edition),
+    (b"open", Word::Open),
+    (b"show", Word::Show),
+    (b"charts", Word::Charts),
+    (b"report", Word::Report),
+    (b"end", Word::End),
+    (b"list", Word::List),
+    (b"clear", Word::Clear),
+    (b"form", Word::Form),
+    (b"make", Word::Make),
+    (b"take", Word::Take),
+    (b"poke", Word::Poke),
+    (b"seal", Word::Seal),
+    (b"bytes", Word::Bytes),
+];
 
-fn command_of_one(word: &[u8], n: u64) -> Option<Command> {
-    match word {
-        b"new" => Some(Command::New(u32::try_from(n).ok()?)),
-        b"apply" => Some(Command::Apply { times: n, apart: 0 }),
-        b"form" => Some(Command::Form { size: n, less: 0 }),
-        b"take" => Some(Command::Take(n)),
-        b"seal" => Some(Command::Seal(n)),
-        b"expect" => Some(Command::Expect(u32::try_from(n).ok()?)),
-        b"edition" => Some(Command::Edition(u8::try_from(n).ok()?)),
-        b"open" => Some(Command::Open(u8::try_from(n).ok()?)),
-        _ => None,
-    }
-}
-
-fn command_of_two(word: &[u8], n: u64, m: u64) -> Option<Command> {
-    match word {
-        b"byte" if n < 40 => Some(Command::Byte(n as usize, u8::try_from(m).ok()?)),
-        b"apply" => Some(Command::Apply { times: n, apart: m }),
-        b"form" => Some(Command::Form { size: n, less: m }),
-        b"poke" => Some(Command::Poke(n, m)),
-        b"bytes" => Some(Command::Bytes { from: n, to: m }),
-        _ => None,
-    }
-}
-
-// A record or a closing.
-fn command_of_more(word: &[u8], numbers: &[u64]) -> Option<Command> {
-    match (word, numbers) {
-        (b"record", [kind, mark, minute, fields @ ..]) => {
-            let record = script_record::record_of(*kind, *mark, *minute, fields)?;
-            Some(Command::Record(record))
+pub fn word_of(text: &[u8]) -> Option<Word> {
+    for (name, word) in &WORDS {
+        if *name == text {
+            return Some(*word);
         }
-        (b"make", [kind, minute, z, size]) => {
-            Some(Command::Make(closing_of(*kind, *minute, *z)?, *size, 0))
-        }
-        (b"make", [kind, minute, z, size, less]) => {
-            Some(Command::Make(closing_of(*kind, *minute, *z)?, *size, *less))
-        }
-        _ => None,
     }
+    None
 }
 
-// The command of a word and its numbers, where there is one that takes as many, each as large. A function for each count of numbers: the
-// check takes longer over one match of all the commands.
-pub fn command_of(word: &[u8], numbers: &[u64]) -> Option<Command> {
-    match numbers {
-        [] => command_of_none(word),
-        [n] => command_of_one(word, *n),
-        [n, m] => command_of_two(word, *n, *m),
-        _ => command_of_more(word, numbers),
+impl Word {
+    // Whether a name comes before the numbers.
+    pub fn has_name(self) -> bool {
+        matches!(
+            self,
+            Word::Series
+                | Word::More
+                | Word::Chart
+                | Word::Sound
+                | Word::Fit
+                | Word::Lent
+                | Word::Annual
+        )
     }
-}
-
-// Z is the signed number of 32 bits that has the lowest four bytes.
-fn closing_of(kind: u64, minute: u64, z: u64) -> Option<Closing> {
-    Some(Closing {
-        kind: u8::try_from(kind).ok()?,
-        minute: u32::try_from(minute).ok()?,
-        z: ((z & 0xffffffff) as u32).cast_signed(),
-    })
 }

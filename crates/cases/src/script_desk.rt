@@ -1,7 +1,7 @@
 // What the commands of the script do: a state is brought about, records are listed, a block is formed of them or a closing made after them, blocks are
 // gathered in a run, and the run is taken. A target is filled before a call, so that a byte that was written is seen.
 use crate::print::{Flags, Or};
-use crate::script_command::Command;
+use crate::script_command::Word;
 use crate::{charts_cases, script_record};
 use arrayvec::ArrayVec;
 use charts::Chart;
@@ -21,7 +21,7 @@ const TARGET: usize = 600;
 const FILL: u8 = 0xa5;
 
 // What a script works on: what it prints by, a state, one that was kept, the record that is prepared, the listed records, the run and how many blocks of it were
-// formed, what the last call left in its target, and the edition that is told.
+// formed, and what the last call left in its target.
 #[derive(Drop)]
 pub struct Desk<'a, R> {
     rt: &'a R,
@@ -33,7 +33,6 @@ pub struct Desk<'a, R> {
     run: [[u8; BLOCK]; 4],
     formed: usize,
     target: [u8; TARGET],
-    edition: u8,
 }
 
 // A state that calls left is sound.
@@ -57,6 +56,11 @@ fn row_and_place(refused: Option<Refused>) -> (u32, u8) {
     }
 }
 
+// The first `size` bytes of a target.
+fn asked(target: &mut [u8; TARGET], size: i64) -> Option<&mut [u8]> {
+    target.get_mut(..usize::try_from(size).ok()?)
+}
+
 // The check of some bytes.
 pub fn show_check(rt: &impl Print, text: &[u8]) -> io::Result<()> {
     rt.write_all(text)?;
@@ -75,7 +79,6 @@ impl<'a, R: Print> Desk<'a, R> {
             run: [[0; BLOCK]; 4],
             formed: 0,
             target: [FILL; TARGET],
-            edition: 1,
         }
     }
 
@@ -85,51 +88,85 @@ impl<'a, R: Print> Desk<'a, R> {
 
     // What the prepared record would meet. The state stays as it is.
     pub fn attempt(&self, title: &[u8]) -> io::Result<()> {
-        let row = step(self.state, &self.record)
-            .err()
-            .map_or(0, Refusal::number);
+        let row = match step(self.state, &self.record) {
+            Ok(_) => 0,
+            Err(row) => row.number(),
+        };
         self.rt.write_all(title)?;
         println!(self.rt; ": {row}")
     }
 
-    // One match, with an arm for each command, and no table of closures: each command has numbers of its own, and the arms lend the desk in different ways.
-    // What takes more than a line is a method.
-    pub fn obey(&mut self, command: Command) -> io::Result<()> {
-        match command {
-            Command::New(analyser) => self.state = records::apply::initial(analyser),
-            Command::Record(record) => self.record = record,
-            Command::Byte(at, byte) => {
-                if let Some(place) = self.record.get_mut(at) {
-                    *place = byte;
-                }
+    // Commands on the state. Like `obey_file`, None where the line is no command: each command has numbers of its own.
+    pub fn obey(&mut self, word: Word, numbers: &[i64]) -> Option<io::Result<()>> {
+        match (word, numbers) {
+            (Word::New, [analyser]) => {
+                self.state = records::apply::initial(u32::try_from(*analyser).ok()?)
             }
-            Command::Apply { times, apart } => self.apply(times, apart)?,
-            Command::Keep => self.kept = self.state,
-            Command::Back => self.state = self.kept,
-            Command::List => self.list()?,
-            Command::Clear => {
-                self.list.clear();
-                self.formed = 0;
+            (Word::Record, [kind, mark, minute, fields @ ..]) => {
+                self.record = script_record::record_of(*kind, *mark, *minute, fields)?
             }
-            Command::Form { size, less } => self.form(size, less)?,
-            Command::Make(closing, size, less) => self.make(closing, size, less)?,
-            Command::Take(size) => self.take(size)?,
-            Command::Poke(at, byte) => self.poke(at, byte)?,
-            Command::Seal(block) => self.seal(block)?,
-            Command::Expect(block) => self.state.next = block,
-            Command::Edition(edition) => self.edition = edition,
-            Command::Open(edition) => self.state.edition = edition,
-            Command::Bytes { from, to } => self.bytes(from, to)?,
-            Command::Show => self.show()?,
-            Command::Charts => self.charts()?,
-            Command::Report => self.report()?,
-            Command::End => println!(self.rt)?,
+            (Word::Byte, [at, byte]) => {
+                let place = self.record.get_mut(usize::try_from(*at).ok()?)?;
+                *place = u8::try_from(*byte).ok()?;
+            }
+            (Word::Apply, []) => return Some(self.apply(1, 0)),
+            (Word::Apply, [times]) => return Some(self.apply(*times, 0)),
+            (Word::Apply, [times, apart]) => {
+                return Some(self.apply(*times, u32::try_from(*apart).ok()?));
+            }
+            (Word::Keep, []) => self.kept = self.state,
+            (Word::Back, []) => self.state = self.kept,
+            (Word::Expect, [block]) => self.state.next = u32::try_from(*block).ok()?,
+            (Word::Open, [edition]) => self.state.edition = u8::try_from(*edition).ok()?,
+            (Word::Show, []) => return Some(self.show()),
+            (Word::Charts, []) => return Some(self.charts()),
+            (Word::Report, []) => return Some(self.report()),
+            (Word::End, []) => return Some(println!(self.rt)),
+            _ => return None,
         }
-        Ok(())
+        Some(Ok(()))
     }
 
-    // The record so many times, each so many minutes after the one before, up to the first that is refused.
-    fn apply(&mut self, times: u64, apart: u64) -> io::Result<()> {
+    // Commands on records that are listed and on the run, in an edition.
+    pub fn obey_file(
+        &mut self,
+        edition: u8,
+        word: Word,
+        numbers: &[i64],
+    ) -> Option<io::Result<()>> {
+        match (word, numbers) {
+            (Word::List, []) => Some(self.list()),
+            (Word::Clear, []) => {
+                self.list.clear();
+                self.formed = 0;
+                Some(Ok(()))
+            }
+            (Word::Form, [size]) => Some(self.form(edition, *size, 0)),
+            (Word::Form, [size, less]) => Some(self.form(edition, *size, *less)),
+            (Word::Make, [kind, minute, z, size]) => {
+                let closing = script_record::closing_of(*kind, *minute, *z)?;
+                Some(self.make(edition, closing, *size, 0))
+            }
+            (Word::Make, [kind, minute, z, size, less]) => {
+                let closing = script_record::closing_of(*kind, *minute, *z)?;
+                Some(self.make(edition, closing, *size, *less))
+            }
+            (Word::Take, [size]) => Some(self.take(usize::try_from(*size).ok()?)),
+            (Word::Poke, [at, byte]) => {
+                let byte = u8::try_from(*byte).ok()?;
+                Some(self.poke(usize::try_from(*at).ok()?, byte))
+            }
+            (Word::Seal, [block]) => Some(self.seal(usize::try_from(*block).ok()?)),
+            (Word::Bytes, [from, to]) => {
+                let (from, to) = (usize::try_from(*from).ok()?, usize::try_from(*to).ok()?);
+                Some(self.bytes(from, to))
+            }
+            _ => None,
+        }
+    }
+
+    // The record a number of times, each some minutes after the one before, up to the first that is refused.
+    fn apply(&mut self, times: i64, apart: u32) -> io::Result<()> {
         for _ in 0..times {
             match step(self.state, &self.record) {
                 Ok(after) => self.state = after,
@@ -151,29 +188,31 @@ impl<'a, R: Print> Desk<'a, R> {
     // What a call answered, and whether the target has all its old bytes.
     fn tell(&self, refused: Option<Refused>) -> io::Result<()> {
         let (row, place) = row_and_place(refused);
-        let untouched = self.target.iter().all(|b| *b == FILL);
-        let target = if untouched { "kept" } else { "written" };
+        let target = if self.target == [FILL; TARGET] {
+            "kept"
+        } else {
+            "written"
+        };
         print!(self.rt; " refused {row} place {place} {target}")
     }
 
     // The listed bytes, but for their last `less`.
-    fn listed(&self, less: u64) -> Option<&[u8]> {
+    fn listed(&self, less: i64) -> Option<&[u8]> {
         let list = self.list.as_slice();
-        let n = (list.len() as u64).checked_sub(less)?;
-        Some(&list[..n as usize])
+        list.get(..list.len().checked_sub(usize::try_from(less).ok()?)?)
     }
 
     // A block of the listed records, but for their last `less` bytes, in a target of `size` bytes. A block that was formed goes behind the run, and the
     // list is empty.
-    fn form(&mut self, size: u64, less: u64) -> io::Result<()> {
+    fn form(&mut self, edition: u8, size: i64, less: i64) -> io::Result<()> {
         let mut target = [FILL; TARGET];
         let Some(bytes) = self.listed(less) else {
             return self.no_room();
         };
-        let Some(asked) = target.get_mut(..size as usize) else {
+        let Some(asked) = asked(&mut target, size) else {
             return self.no_room();
         };
-        let answer = file::append(self.state, self.edition, bytes, asked);
+        let answer = file::append(self.state, edition, bytes, asked);
         self.target = target;
         self.tell(answer.err())?;
         let Ok(after) = answer else {
@@ -191,15 +230,15 @@ impl<'a, R: Print> Desk<'a, R> {
 
     // A closing after the listed records, but for their last `less` bytes, in a target of `size` bytes. One that was made is the prepared record.
     // Like `form`, and no shorter with what they share in a function that takes the call.
-    fn make(&mut self, closing: Closing, size: u64, less: u64) -> io::Result<()> {
+    fn make(&mut self, edition: u8, closing: Closing, size: i64, less: i64) -> io::Result<()> {
         let mut target = [FILL; TARGET];
         let Some(bytes) = self.listed(less) else {
             return self.no_room();
         };
-        let Some(asked) = target.get_mut(..size as usize) else {
+        let Some(asked) = asked(&mut target, size) else {
             return self.no_room();
         };
-        let answer = file::make_closing(self.state, self.edition, bytes, closing, asked);
+        let answer = file::make_closing(self.state, edition, bytes, closing, asked);
         self.target = target;
         self.tell(answer.err())?;
         if answer.is_ok() {
@@ -209,8 +248,8 @@ impl<'a, R: Print> Desk<'a, R> {
     }
 
     // The first `size` bytes of the run.
-    fn take(&mut self, size: u64) -> io::Result<()> {
-        let Some(run) = self.run.as_flattened().get(..size as usize) else {
+    fn take(&mut self, size: usize) -> io::Result<()> {
+        let Some(run) = self.run.as_flattened().get(..size) else {
             return self.no_room();
         };
         let r = file::replay(self.state, run);
@@ -223,11 +262,8 @@ impl<'a, R: Print> Desk<'a, R> {
     }
 
     // A byte of the run is changed.
-    fn poke(&mut self, at: u64, byte: u64) -> io::Result<()> {
-        let Ok(byte) = u8::try_from(byte) else {
-            return self.no_room();
-        };
-        let Some(place) = self.run.as_flattened_mut().get_mut(at as usize) else {
+    fn poke(&mut self, at: usize, byte: u8) -> io::Result<()> {
+        let Some(place) = self.run.as_flattened_mut().get_mut(at) else {
             return self.no_room();
         };
         *place = byte;
@@ -235,8 +271,8 @@ impl<'a, R: Print> Desk<'a, R> {
     }
 
     // A block of the run gets its check.
-    fn seal(&mut self, block: u64) -> io::Result<()> {
-        let Some(block) = self.run.get_mut(block as usize) else {
+    fn seal(&mut self, block: usize) -> io::Result<()> {
+        let Some(block) = self.run.get_mut(block) else {
             return self.no_room();
         };
         let check = file::check(&block[..510]);
@@ -245,9 +281,12 @@ impl<'a, R: Print> Desk<'a, R> {
     }
 
     // Bytes of the target, in hexadecimal.
-    fn bytes(&self, from: u64, to: u64) -> io::Result<()> {
+    fn bytes(&self, from: usize, to: usize) -> io::Result<()> {
+        let Some(bytes) = self.target.get(from..to) else {
+            return self.no_room();
+        };
         print!(self.rt; " ")?;
-        for byte in self.target.iter().take(to as usize).skip(from as usize) {
+        for byte in bytes {
             print!(self.rt; "{byte:02x}")?;
         }
         Ok(())
@@ -271,8 +310,8 @@ impl<'a, R: Print> Desk<'a, R> {
     // A line for each chart.
     fn charts(&self) -> io::Result<()> {
         let st = &self.state;
-        charts_cases::show(self.rt, "zero", st.setting.zero, st.zero)?;
-        charts_cases::show(self.rt, "span", st.setting.span, st.span)
+        charts_cases::show(self.rt, b"zero", st.setting.zero, st.zero)?;
+        charts_cases::show(self.rt, b"span", st.setting.span, st.span)
     }
 
     // The six alarms and usable.

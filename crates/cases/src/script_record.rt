@@ -1,27 +1,44 @@
-// The forty bytes of a record, from the numbers of a line.
+// Records and closings, from the numbers of a line.
+use arrayvec::ArrayVec;
+use file::Closing;
 
-// Kind, mark and minute, and the fields from byte 8 on, of four bytes each, but of eight for the intercept of a calibration closing. What would come
-// past the fortieth byte is left out. More than eight fields make no record.
-pub fn record_of(kind: u64, mark: u64, minute: u64, fields: &[u64]) -> Option<[u8; 40]> {
-    if 8 < fields.len() {
-        return None;
+// The bytes of the fields: four of each, but eight of the intercept of a calibration closing.
+fn field_bytes(kind: i64, fields: &[i64]) -> Option<ArrayVec<u8, 32>> {
+    let mut all = ArrayVec::new();
+    for (i, field) in fields.iter().enumerate() {
+        let bytes = field.to_le_bytes();
+        all.try_extend_from_slice(&bytes[..4]).ok()?;
+        if kind == 5 && i == 2 {
+            all.try_extend_from_slice(&bytes[4..]).ok()?;
+        }
     }
+    Some(all)
+}
+
+// The forty bytes of a record: kind, mark and minute, and the fields from byte 8 on.
+pub fn record_of(kind: i64, mark: i64, minute: i64, fields: &[i64]) -> Option<[u8; 40]> {
+    let minute = u32::try_from(minute).ok()?;
+    let fields = field_bytes(kind, fields)?;
     let mut record = [0; 40];
-    record[..1].copy_from_slice(&kind.to_le_bytes()[..1]);
-    record[1..2].copy_from_slice(&mark.to_le_bytes()[..1]);
-    record[4..8].copy_from_slice(&minute.to_le_bytes()[..4]);
-    let bytes = fields.iter().enumerate().flat_map(|(i, field)| {
-        let width = if kind == 5 && i == 2 { 8 } else { 4 };
-        field.to_le_bytes().into_iter().take(width)
-    });
-    for (place, byte) in record[8..].iter_mut().zip(bytes) {
-        *place = byte;
+    record[0] = u8::try_from(kind).ok()?;
+    record[1] = u8::try_from(mark).ok()?;
+    record[4..8].copy_from_slice(&minute.to_le_bytes());
+    for (place, byte) in record[8..].iter_mut().zip(fields.as_slice()) {
+        *place = *byte;
     }
     Some(record)
 }
 
 // Moves the minute on by d.
-pub fn move_on(record: &mut [u8; 40], d: u64) {
-    let minute = u64::from(records::bytes::read32(record, 4));
-    record[4..8].copy_from_slice(&minute.wrapping_add(d).to_le_bytes()[..4]);
+pub fn move_on(record: &mut [u8; 40], d: u32) {
+    let minute = records::bytes::read32(record, 4).wrapping_add(d);
+    record[4..8].copy_from_slice(&minute.to_le_bytes());
+}
+
+pub fn closing_of(kind: i64, minute: i64, z: i64) -> Option<Closing> {
+    Some(Closing {
+        kind: u8::try_from(kind).ok()?,
+        minute: u32::try_from(minute).ok()?,
+        z: i32::try_from(z).ok()?,
+    })
 }

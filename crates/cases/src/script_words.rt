@@ -1,8 +1,8 @@
 // A line of the script, taken apart: its words, and the numbers among them.
 use arrayvec::ArrayVec;
 
-// The most numbers of a command: kind, mark and minute of a record, and eight fields.
-const NUMBERS: usize = 11;
+// The most numbers of a command: sixteen pairs.
+const NUMBERS: usize = 32;
 
 // The first word of a line, and what follows the space behind it.
 pub fn first_word(line: &[u8]) -> (&[u8], &[u8]) {
@@ -12,20 +12,37 @@ pub fn first_word(line: &[u8]) -> (&[u8], &[u8]) {
     }
 }
 
-// A number below 10^15, as 64 bits, a negative one in two's complement.
-fn number(word: &[u8]) -> Option<u64> {
+fn number(word: &[u8]) -> Option<i64> {
     if word.starts_with(b"+") {
         return None;
     }
-    let n = str::from_utf8(word).ok()?.parse::<i64>().ok()?;
-    (n.unsigned_abs() < 1000000000000000).then_some(n.cast_unsigned())
+    str::from_utf8(word).ok()?.parse().ok()
+}
+
+// A number with no sign, up to 2^64 - 1.
+pub fn unsigned(word: &[u8]) -> Option<u64> {
+    str::from_utf8(word).ok()?.parse().ok()
 }
 
 // The numbers of a part of a line, with spaces between them, if nothing else stands there, and no more than a command has.
-pub fn numbers(text: &[u8]) -> Option<ArrayVec<u64, NUMBERS>> {
+pub fn numbers(text: &[u8]) -> Option<ArrayVec<i64, NUMBERS>> {
     let mut numbers = ArrayVec::new();
-    for word in text.split(|b| *b == b' ').filter(|w| !w.is_empty()) {
-        numbers.try_push(number(word)?).ok()?;
+    for word in text.split(|b| *b == b' ') {
+        if !word.is_empty() {
+            numbers.try_push(number(word)?).ok()?;
+        }
     }
     Some(numbers)
+}
+
+// N numbers, where there are as many, each of 32 bits.
+pub fn fixed<const N: usize>(numbers: &[i64]) -> Option<[i32; N]> {
+    if numbers.len() != N {
+        return None;
+    }
+    let mut fixed = [0; N];
+    for (place, n) in fixed.iter_mut().zip(numbers) {
+        *place = i32::try_from(*n).ok()?;
+    }
+    Some(fixed)
 }

@@ -1,0 +1,75 @@
+// The pairs of the commands `pairs` and `pair`, for fits and annual tests.
+use arrayvec::ArrayVec;
+use calibration::{Actual, Conditions, Pair};
+
+// The most pairs that a case has.
+const PAIRS: usize = 1000;
+
+#[derive(Drop)]
+pub struct Listed {
+    // The conditions of the first pair, and of the others.
+    pub first: Conditions,
+    pub others: Conditions,
+    pairs: ArrayVec<Pair, PAIRS>,
+}
+
+impl Listed {
+    pub fn new() -> Listed {
+        let neutral = Conditions {
+            temperature: 0,
+            pressure: 0,
+            water: 0,
+            oxygen: 1100,
+        };
+        Listed {
+            first: neutral,
+            others: neutral,
+            pairs: ArrayVec::new(),
+        }
+    }
+
+    // A pair more, where there is room.
+    fn push(&mut self, signal: i64, value: i64) -> Option<()> {
+        let conditions = if self.pairs.is_empty() {
+            self.first
+        } else {
+            self.others
+        };
+        let pair = Pair {
+            signal: i32::try_from(signal).ok()?,
+            srm: Actual(i32::try_from(value).ok()?),
+            conditions,
+        };
+        self.pairs.try_push(pair).ok()
+    }
+
+    // Signals, each with its SRM value, in the place of what was listed.
+    pub fn list(&mut self, figures: &[i64]) -> Option<()> {
+        self.pairs.clear();
+        for figures in figures.chunks(2) {
+            let [signal, value] = figures else {
+                return None;
+            };
+            self.push(*signal, *value)?;
+        }
+        Some(())
+    }
+
+    // The first n pairs; past the end, the last again.
+    pub fn first(&mut self, n: usize) -> Option<&[Pair]> {
+        for _ in self.pairs.len()..n {
+            let last = *self.pairs.last()?;
+            self.pairs.try_push(last).ok()?;
+        }
+        self.pairs.as_slice().get(..n)
+    }
+
+    // Another signal and SRM value for the nth pair; past the end, the last again.
+    pub fn change(&mut self, n: usize, signal: i64, value: i64) -> Option<()> {
+        self.first(n)?;
+        let pair = self.pairs.get_mut(n.checked_sub(1)?)?;
+        pair.signal = i32::try_from(signal).ok()?;
+        pair.srm = Actual(i32::try_from(value).ok()?);
+        Some(())
+    }
+}
