@@ -20,7 +20,7 @@ fn ranged(pairs: &[Pair], q: Requirements) -> bool
 
 // ---- the calls, where their arguments are in range
 
-fn try_standard(edition: u8, reference: i32, k: Conditions, v: i32) -> Option<i32> {
+pub fn try_standard(edition: u8, reference: i32, k: Conditions, v: i32) -> Option<i32> {
     if !calibration::between(-8000000, 8000000, v)
         || !calibration::between(0, 1800, reference)
         || !calibration::conditions_ranged(k)
@@ -31,7 +31,7 @@ fn try_standard(edition: u8, reference: i32, k: Conditions, v: i32) -> Option<i3
     Some(y.0)
 }
 
-fn try_value(edition: u8, reference: i32, l: Line, k: Conditions, x: i32) -> Option<i32> {
+pub fn try_value(edition: u8, reference: i32, l: Line, k: Conditions, x: i32) -> Option<i32> {
     if !calibration::between(0, 400000, x)
         || !calibration::between(0, 1800, reference)
         || !calibration::line_ranged(l)

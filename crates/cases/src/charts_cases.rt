@@ -9,7 +9,10 @@ pub fn fresh() -> Chart {
 }
 
 // A reading, where the chart and the difference are in the range that `apply` asks for; else the chart as it is.
-fn applied(edition: u8, c: Chart, s: u16, d: i32) -> Chart {
+fn applied(edition: u8, c: Chart, s: u16, d: i64) -> Chart {
+    let Ok(d) = i32::try_from(d) else {
+        return c;
+    };
     if !c.sound() || 100000 <= c.readings || !charts::difference_ranged(d) {
         return c;
     }

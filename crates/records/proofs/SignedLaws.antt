@@ -8,7 +8,7 @@ use native.Mathlib.Omega.{arith}
 use lib.Dec.{T, eqb}
 use lib.IntN.{ℤ, pos, negsuc, nat_abs}
 use lib.Signed.{mag, non_neg, yes_non_neg}
-use mir.Syntax.{Width}
+use mir.Syntax.{Width, w32}
 use mir.Val.{Fits, SFits, to_z, of_z, hbits, bits}
 use mir.Facts.{to_z-of_z}
 use Rattle.std.proofs.Math.Facts.{eqb_yes, yes_eqb, and_yes, yes_and}
