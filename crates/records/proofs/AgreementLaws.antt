@@ -14,7 +14,7 @@ use Rattle.charts.specs.ChartLaws.{Reading, differences, after_readings}
 use Rattle.charts.proofs.ChartLaws.{charted}
 use Rattle.charts.specs.declared.Chart.{Chart}
 use Rattle.records.specs.Lists.{those_since}
-use Rattle.records.specs.Record.{Record, kind, mark, minute, setting_of, difference_of, waiting_of, function_of, formed_of, ranged_of}
+use Rattle.records.specs.Record.{Record, kind, mark, minute, minute_limit, setting_of, difference_of, waiting_of, function_of, formed_of, ranged_of}
 use Rattle.records.specs.Kinds.{Point, at_zero, at_span, number, reads, resets, sets, pairs, empties, calibrates, fails, deviation_of, Demand}
 use Rattle.records.specs.Table.{Facts, misplaced, untimely, kind_refusal, reading_refusal, chart_refusal, pair_refusal, refusal_in}
 use Rattle.records.specs.History.{Entry, History, on, begun_in, last_minute, setting_in, started_in, differences_in, pending_in, function_in, total_in, outside_in, weeks_over, week_calls, calls_in, oldest, first_call, facts_in, refusal_of}
@@ -67,7 +67,7 @@ module _ (h : History) (x : Entry) (e : refusal_of h x ≡ 0) where
   unfolding untimely facts_in
   in_order = go (ltb (minute r) (last_minute h)) (λ t. nltb→le (minute r) (last_minute h) t) rows.1
     where
-      go : (b : Bool) → (T (not b) → last_minute h ≤ minute r) → b || ltb 100000000 (minute r) ≡ false → last_minute h ≤ minute r
+      go : (b : Bool) → (T (not b) → last_minute h ≤ minute r) → b || ltb minute_limit (minute r) ≡ false → last_minute h ≤ minute r
       go true f e = absurd (differ e)
       go false f e = f tt
 
