@@ -33,9 +33,6 @@ is_false false f = refl
 pub sure_of : {b : Bool} → b ≡ true → T b
 sure_of h = subst T (sym h) tt
 
-pub denied_of : {b : Bool} → b ≡ false → T (not b)
-denied_of h = subst (λ (b : Bool). T (not b)) (sym h) tt
-
 -- the test b is true exactly if P holds
 pub record Answers (b : Bool) (P : Type 0) : Type 0 where
   pub sure : T b → P
