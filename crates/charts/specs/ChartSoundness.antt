@@ -21,7 +21,7 @@ difference_ranged_answers d =
     (λ p. record { low = p.0; high = p.1 })
     (λ r. (r.low, r.high))
 
--- a sum of at most so many terms as there are readings, and of at most `most` for each term
+-- a sum of at most as many terms as there are readings, and of at most `most` for each term
 pub record Within (most readings : ℕ) (u : Sum) : Type 0 where
   pub counted : u.count ≤ readings
   pub bounded : u.value ≤ most * u.count

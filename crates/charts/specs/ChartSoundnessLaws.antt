@@ -6,7 +6,8 @@ use Rattle.charts.specs.Integers.{square, ints, sum, diff, prod, one_zero, abs_u
 use Rattle.charts.specs.Tests.{if_all}
 use Rattle.charts.specs.Sums.{empty, added}
 use Rattle.charts.specs.Charts.{rising_term, falling_term, precision_term, reset_of, applied_of, blank}
-use Rattle.charts.specs.ChartSoundness.{DifferenceRanged, Within, ChartSound, most_rising, most_falling, most_precision}
+use Rattle.charts.specs.ChartSoundness.{DifferenceRanged, Within, ChartSound, most_rising, most_falling}
+use Rattle.charts.specs.ChartSoundness.{most_precision}
 use Rattle.charts.specs.declared.Sum.{Sum}
 use Rattle.charts.specs.declared.Chart.{Chart}
 
@@ -24,7 +25,9 @@ added_within most readings u t h W =
     kept : T (lt_z (pos 0) z) → Within most (readings + 1) (record { value = nat_abs z; count = u.count + 1 })
     kept b = record {
       counted = omega (arith, W.counted);
-      bounded = let above = lt_ud (lt_z_yes {a = pos 0} {b = z} b) in omega (arith, W.bounded, le_ud h, sum (pos u.value) t, abs_ud z, one_zero z);
+      bounded =
+          let above = lt_ud (lt_z_yes {a = pos 0} {b = z} b) in
+          omega (arith, W.bounded, le_ud h, sum (pos u.value) t, abs_ud z, one_zero z);
     }
 
 module _ (s : ℕ) {d : ℤ} (D : DifferenceRanged d) where

@@ -34,7 +34,7 @@ precision_limit s = 138 * (s * s)
 abbrev pub over : ℕ → Sum → Bool
 over limit u = ltb limit u.value
 
--- The three alarms; all off ahead of the first reset.
+-- The three alarms; all off before the first reset.
 unfoldable pub alarms_of : Chart → ℕ → Alarms
 alarms_of c s = record {
   rising = c.started && over (drift_limit s) c.rising;

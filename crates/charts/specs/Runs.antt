@@ -19,7 +19,7 @@ pub record RunOver (limit : ℤ) (ts : List ℤ) : Type 0 where
 
 -- ---- the terms of an alarm, from the differences of the readings since the reset, newest first
 
--- the newest difference; 0 where there is none, as ahead of the first
+-- the newest difference; 0 where there is none, as before the first
 abbrev pub newest : List ℤ → ℤ
 newest [] = pos 0
 newest (d ∷ ds) = d

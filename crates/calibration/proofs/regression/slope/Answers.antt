@@ -1,5 +1,5 @@
 -- `calibration::regression::slope` meets its contract: the whole part and the rest by `divide`, what the rest gives by `near_unsigned`, and B from both.
-use Rattle.std.proofs.Common.{rules, ◌≡◌, sym, ap, subst, ◌∙◌, true, Some, ℕ, ◌*◌, ◌≤◌, ◌<◌, arith, T, SFits, to_z-of_z, w32, w64}
+use Rattle.std.proofs.Common.{rules, ◌≡◌, sym, ap, subst, ◌∙◌, true, Some, ℕ, ◌≤◌, ◌<◌, arith, T, SFits, to_z-of_z, w32, w64}
 use Rattle.std.specs.Prelude.{Bool, ℤ, pos, neg_ℤ, nat_abs, ◌+ℤ◌, ◌*ℤ◌, ◌<ℤ◌}
 use lib.Dec.{lit<}
 use mir.Val.{to_z, of_z}
@@ -15,6 +15,7 @@ use Rattle.calibration.specs.Calibration.{slope_ranged_of}
 use Rattle.calibration.proofs.SlopeLaws.{slope_parts, part_ranged, slope_far, slope_in, slope_out}
 use Rattle.charts.proofs.CastLaws.{signed, unsigned}
 use Rattle.calibration.proofs.regression.slope.Goals as goal
+use Rattle.calibration.proofs.regression.slope.Goals.{After-cast_signed}
 
 -- a range test of a local, and what it says where it holds
 tested : (a b : ℤ) (A : Loc w64) {t : Bool} → t ≡ between_of a b (to_z w64 A.bits) → t ≡ between_of a b A.num
@@ -42,40 +43,48 @@ module _ (edition : ℕ) {rise divisor whole rest : ℤ} (Q : (nat_abs rise ≤ 
   divisor-is : {y : ℕ} → y ≡ of_z w64 (to_z w64 (of_z w64 divisor)) → pos y ≡ divisor
   divisor-is e = unsigned (arg {w = w64} divisor (abs_sfits (omega (arith, Q.2)))) (ud_le (omega (arith, lt_ud Q.1))) e
 
-  -- what the rest gives, and B
-  module _ {x y r : ℕ} {s : ℤ} {t : Bool} (F : SFits w64 whole) (T : t ≡ between_of (neg_ℤ (pos 1)) (pos 10) (to_z w64 (of_z w64 whole))) (I : t ≡ true)
-      (X : x ≡ of_z w64 (to_z w64 (of_z w64 rest))) (Y : y ≡ of_z w64 (to_z w64 (of_z w64 divisor))) (N : pos r ≡ near_of edition (pos (100000 * x)) (pos y)) (S : s ≡ to_z w64 r) where
-    part-is : pos r ≡ near_of edition (pos 100000 *ℤ rest) divisor
-    part-is = N ∙ ap (λ (z : ℤ). near_of edition (pos 100000 *ℤ z) (pos y)) (rest-is X) ∙ ap (near_of edition (pos 100000 *ℤ rest)) (divisor-is Y)
+-- where the rest's part is there: it, the whole part and B as the machine's numbers
+module _ (c : After-cast_signed) where
+  whole-fits : SFits w64 c.divide-p.result.whole
+  whole-fits = search rules
 
-    part-small : r ≤ 100000
-    part-small = omega (arith, le_ud (part_ranged edition rise divisor Q.1 D).high, eq_ud part-is)
+  abbrev D : Divided c.args.rise c.args.divisor c.divide-p.result.whole c.divide-p.result.rest
+  D = parts c.requires.1 c.ranges.rise c.ranges.divisor c.divide-p.ensures
 
-    abbrev P : Loc w64
-    P = signed r (omega (arith, part-small)) S
+  part-is : pos c.near_unsigned-part.result ≡ near_of c.args.edition (pos 100000 *ℤ c.divide-p.result.rest) c.args.divisor
+  part-is =
+      c.near_unsigned-part.ensures
+      ∙ ap (λ (z : ℤ). near_of c.args.edition (pos 100000 *ℤ z) (pos c.cast_unsigned.result)) (rest-is c.args.edition c.requires D c.cast_unsigned-rest.ensures)
+      ∙ ap (near_of c.args.edition (pos 100000 *ℤ c.divide-p.result.rest)) (divisor-is c.args.edition c.requires D c.cast_unsigned.ensures)
 
-    whole-in : between_of (neg_ℤ (pos 1)) (pos 10) whole ≡ true
-    whole-in = sym (tested (neg_ℤ (pos 1)) (pos 10) (arg whole F) T) ∙ I
+  part-small : c.near_unsigned-part.result ≤ 100000
+  part-small = omega (arith, le_ud (part_ranged c.args.edition c.args.rise c.args.divisor c.requires.1 D).high, eq_ud part-is)
 
-    product-small : nat_abs (pos 100000 *ℤ whole) ≤ 1000000
-    product-small = omega (arith, abs_prod (pos 100000) whole, between_abs (inside (neg_ℤ (pos 1)) (pos 10) whole whole-in))
+  abbrev P : Loc w64
+  P = signed c.near_unsigned-part.result (omega (arith, part-small)) c.cast_signed.ensures
 
-    abbrev K : Loc w64
-    K = mul (lit 100000 (lit< tt)) (arg whole F) (abs_sfits (omega (arith, product-small)))
+  whole-in : between_of (neg_ℤ (pos 1)) (pos 10) c.divide-p.result.whole ≡ true
+  whole-in = sym (tested (neg_ℤ (pos 1)) (pos 10) (arg c.divide-p.result.whole whole-fits) c.between_wide.ensures) ∙ c.if-not-between_wide.false
 
-    abbrev B : Loc w64
-    B = add K P (abs_sfits (omega (arith, abs_sum K.num P.num, product-small, part-small)))
+  product-small : nat_abs (pos 100000 *ℤ c.divide-p.result.whole) ≤ 1000000
+  product-small = omega (arith, abs_prod (pos 100000) c.divide-p.result.whole, between_abs (inside (neg_ℤ (pos 1)) (pos 10) c.divide-p.result.whole whole-in))
 
-    b-is : B.num ≡ b
-    b-is = ap (λ (z : ℤ). pos 100000 *ℤ whole +ℤ z) part-is ∙ sym (slope_parts edition rise divisor Q.1 D)
+  abbrev K : Loc w64
+  K = mul (lit 100000 (lit< tt)) (arg c.divide-p.result.whole whole-fits) (abs_sfits (omega (arith, product-small)))
 
-    module _ {u : Bool} (U : u ≡ between_of (pos 1) (pos 1000000) (to_z w64 B.bits)) where
-      b-tested : u ≡ slope_ranged_of b
-      b-tested = tested (pos 1) (pos 1000000) B U ∙ ap slope_ranged_of b-is
+  abbrev B : Loc w64
+  B = add K P (abs_sfits (omega (arith, abs_sum K.num P.num, product-small, part-small)))
 
-      -- B as i32
-      abbrev Result : u ≡ true → Loc w32
-      Result e = cast w32 B (rw b-is (between_fits tt (inside (pos 1) (pos 1000000) b (sym b-tested ∙ e))))
+  b-is : B.num ≡ b c.args.edition c.requires D
+  b-is = ap (λ (z : ℤ). pos 100000 *ℤ c.divide-p.result.whole +ℤ z) part-is ∙ sym (slope_parts c.args.edition c.args.rise c.args.divisor c.requires.1 D)
+
+  module _ {u : Bool} (U : u ≡ between_of (pos 1) (pos 1000000) (to_z w64 B.bits)) where
+    b-tested : u ≡ slope_ranged_of (b c.args.edition c.requires D)
+    b-tested = tested (pos 1) (pos 1000000) B U ∙ ap slope_ranged_of b-is
+
+    -- B as i32
+    abbrev Result : u ≡ true → Loc w32
+    Result e = cast w32 B (rw b-is (between_fits tt (inside (pos 1) (pos 1000000) (b c.args.edition c.requires D) (sym b-tested ∙ e))))
 
 pub returns-then-not-between_wide : goal.returns-then-not-between_wide
 returns-then-not-between_wide c =
@@ -91,27 +100,20 @@ overflow_mul-rest c =
     omega (arith, ap nat_abs e, rest-small c.args.edition c.requires D)
 
 pub overflow_add-b : goal.overflow_add-b
-overflow_add-b c =
-    let D = parts c.requires.1 c.ranges.rise c.ranges.divisor c.divide-p.ensures in
-    let F : SFits w64 c.divide-p.result.whole = search rules in
-    add_need (K c.args.edition c.requires D F c.between_wide.ensures c.if-not-between_wide.false c.cast_unsigned-rest.ensures c.cast_unsigned.ensures c.near_unsigned-part.ensures c.cast_signed.ensures) (P c.args.edition c.requires D F c.between_wide.ensures c.if-not-between_wide.false c.cast_unsigned-rest.ensures c.cast_unsigned.ensures c.near_unsigned-part.ensures c.cast_signed.ensures) (B c.args.edition c.requires D F c.between_wide.ensures c.if-not-between_wide.false c.cast_unsigned-rest.ensures c.cast_unsigned.ensures c.near_unsigned-part.ensures c.cast_signed.ensures).fit
+overflow_add-b c = let w : After-cast_signed = (goal.at.overflow_add-b c).After-cast_signed in add_need (K w) (P w) (B w).fit
 
 pub returns-then-not-between_wide-2 : goal.returns-then-not-between_wide-2
 returns-then-not-between_wide-2 c =
-    let a = c.args in
-    let D = parts c.requires.1 c.ranges.rise c.ranges.divisor c.divide-p.ensures in
-    let F : SFits w64 c.divide-p.result.whole = search rules in
-    sym (slope_out a.edition a.rise a.divisor (sym (b-tested c.args.edition c.requires D F c.between_wide.ensures c.if-not-between_wide.false c.cast_unsigned-rest.ensures c.cast_unsigned.ensures c.near_unsigned-part.ensures c.cast_signed.ensures c.between_wide-2.ensures) ∙ c.if-not-between_wide-2.true))
+    let w : After-cast_signed = (goal.at.returns-then-not-between_wide-2 c).After-cast_signed in
+    sym (slope_out c.args.edition c.args.rise c.args.divisor (sym (b-tested w c.between_wide-2.ensures) ∙ c.if-not-between_wide-2.true))
 
 pub overflow_cast-result : goal.overflow_cast-result
 overflow_cast-result c =
-    let D = parts c.requires.1 c.ranges.rise c.ranges.divisor c.divide-p.ensures in
-    let F : SFits w64 c.divide-p.result.whole = search rules in
-    cast_need w32 (B c.args.edition c.requires D F c.between_wide.ensures c.if-not-between_wide.false c.cast_unsigned-rest.ensures c.cast_unsigned.ensures c.near_unsigned-part.ensures c.cast_signed.ensures) (Result c.args.edition c.requires D F c.between_wide.ensures c.if-not-between_wide.false c.cast_unsigned-rest.ensures c.cast_unsigned.ensures c.near_unsigned-part.ensures c.cast_signed.ensures c.between_wide-2.ensures c.if-not-between_wide-2.false).fit
+    let w : After-cast_signed = (goal.at.overflow_cast-result c).After-cast_signed in
+    cast_need w32 (B w) (Result w c.between_wide-2.ensures c.if-not-between_wide-2.false).fit
 
 pub returns : goal.returns
 returns c =
-    let a = c.args in
-    let D = parts c.requires.1 c.ranges.rise c.ranges.divisor c.divide-p.ensures in
-    let F : SFits w64 c.divide-p.result.whole = search rules in
-    ap (λ (z : ℤ). Some z) ((Result c.args.edition c.requires D F c.between_wide.ensures c.if-not-between_wide.false c.cast_unsigned-rest.ensures c.cast_unsigned.ensures c.near_unsigned-part.ensures c.cast_signed.ensures c.between_wide-2.ensures c.if-not-between_wide-2.false).reads ∙ (b-is c.args.edition c.requires D F c.between_wide.ensures c.if-not-between_wide.false c.cast_unsigned-rest.ensures c.cast_unsigned.ensures c.near_unsigned-part.ensures c.cast_signed.ensures)) ∙ sym (slope_in a.edition a.rise a.divisor (sym (b-tested c.args.edition c.requires D F c.between_wide.ensures c.if-not-between_wide.false c.cast_unsigned-rest.ensures c.cast_unsigned.ensures c.near_unsigned-part.ensures c.cast_signed.ensures c.between_wide-2.ensures) ∙ c.if-not-between_wide-2.false))
+    let w : After-cast_signed = (goal.at.returns c).After-cast_signed in
+    ap (λ (z : ℤ). Some z) ((Result w c.between_wide-2.ensures c.if-not-between_wide-2.false).reads ∙ b-is w)
+    ∙ sym (slope_in c.args.edition c.args.rise c.args.divisor (sym (b-tested w c.between_wide-2.ensures) ∙ c.if-not-between_wide-2.false))
