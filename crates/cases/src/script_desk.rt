@@ -6,7 +6,7 @@ use crate::{charts_cases, script_record};
 use arrayvec::ArrayVec;
 use charts::Chart;
 use file::{Closing, Refused};
-use records::state::State;
+use records::State;
 use refusals::Refusal;
 use std::io;
 
@@ -37,10 +37,10 @@ pub struct Desk<'a, R> {
 
 // A state that calls left is sound.
 fn step(st: State, record: &[u8; 40]) -> Result<State, Refusal> {
-    if !records::soundness::sound(4000000000, st) {
+    if !records::sound(4000000000, st) {
         return Err(Refusal::State);
     }
-    records::step::step(st, record)
+    records::step(st, record)
 }
 
 // The readings of a chart; a chart that is not started has none.
@@ -69,7 +69,7 @@ pub fn show_check(rt: &impl Print, text: &[u8]) -> io::Result<()> {
 
 impl<'a, R: Print> Desk<'a, R> {
     pub fn new(rt: &'a R) -> Desk<'a, R> {
-        let state = records::apply::initial(0);
+        let state = records::initial(0);
         Desk {
             rt,
             state,
@@ -100,7 +100,7 @@ impl<'a, R: Print> Desk<'a, R> {
     pub fn obey(&mut self, word: Word, numbers: &[i64]) -> Option<io::Result<()>> {
         match (word, numbers) {
             (Word::New, [analyser]) => {
-                self.state = records::apply::initial(u32::try_from(*analyser).ok()?)
+                self.state = records::initial(u32::try_from(*analyser).ok()?)
             }
             (Word::Record, [kind, mark, minute, fields @ ..]) => {
                 self.record = script_record::record_of(*kind, *mark, *minute, fields)?

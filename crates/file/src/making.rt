@@ -7,8 +7,8 @@ ghost use Rattle.file.specs.Answered.{PlaceOfTwelve};
 ghost use Rattle.file.specs.Closings.{closing_of, closing_refusal, first_rows, made_by, made_bytes, make_of, z_fits};
 
 use crate::{Refused, forming, taking};
-use records::state::State;
-use records::{checks, closing, writing};
+use records::State;
+use records::writing;
 use refusals::Refusal;
 
 // A closing to be made: its kind, its minute, and Z for a calibration. The kind is a record's byte, as any byte may be asked for: row 6 stops one that
@@ -48,7 +48,7 @@ fn first_rows(st: State, closing: Closing) -> Result<(), Refusal>
     if !st.begun {
         return Err(Refusal::Place);
     }
-    if checks::untimely(st, closing.minute) {
+    if records::untimely(st, closing.minute) {
         return Err(Refusal::Minute);
     }
     if !z_fits(closing.kind, closing.z) {
@@ -65,10 +65,10 @@ fn close(st: State, closing: Closing) -> Result<[u8; 40], Refusal>
 {
     first_rows(st, closing)?;
     if closing.kind == 5 {
-        let figures = closing::calibration_result(st, closing.z)?;
+        let figures = records::calibration_result(st, closing.z)?;
         return Ok(writing::calibration(figures, closing.minute, closing.z));
     }
-    let verdicts = closing::annual_result(st)?;
+    let verdicts = records::annual_result(st)?;
     Ok(writing::annual(verdicts, st.pending, closing.minute))
 }
 

@@ -3,8 +3,7 @@ ghost use Rattle.std.specs.Prelude.{◌≡◌};
 ghost use Rattle.file.specs.Statement.{Statement3, report_of};
 
 use crate::Report;
-use records::answers;
-use records::state::State;
+use records::State;
 
 // The six alarms and usable of a state; after any list of calls, what the record list says.
 pub fn report(st: State) -> Report
@@ -14,12 +13,12 @@ pub fn report(st: State) -> Report
     let zero = st.zero.alarms(st.setting.zero);
     let span = st.span.alarms(st.setting.span);
     // `&` and not `&&`, which would part the proof in two at each; the calls have no effect.
-    let quiet = answers::silent(zero) & answers::silent(span);
+    let quiet = records::silent(zero) & records::silent(span);
     Report {
         zero,
         span,
         usable: quiet
-            & (answers::young(2629440, st.minute, st.calibration)
-                & answers::recent(263520, st.minute, st.demand)),
+            & (records::young(2629440, st.minute, st.calibration)
+                & records::recent(263520, st.minute, st.demand)),
     }
 }

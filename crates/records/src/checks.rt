@@ -1,5 +1,5 @@
 // Where a record is stopped: the rows that ask of the records before it. State and record stay two, and so do state and minute, as in
-// `apply`; a type for a pair's record with its ranges would be made at each call.
+// `applying`; a type for a pair's record with its ranges would be made at each call.
 ghost use Rattle.std.specs.Prelude.{◌≡◌, true, false, not, map, ◌+◌, ◌-◌, ◌*◌, ◌<◌, ◌≤◌, length, if◌then◌else◌};
 ghost use Rattle.refusals.specs.Rows.{outcome_of};
 ghost use Rattle.records.specs.Record.{kind, length_of, minute, minute_limit, ranged_of, waiting_ranged};
@@ -46,7 +46,7 @@ fn chart_refusal(c: Chart) -> Result<(), Refusal>
     Ok(())
 }
 
-// The chart of the mark is read here and changed in `apply::change_chart`: one function for both would take a closure to read two fields.
+// The chart of the mark is read here and changed in `applying::change_chart`: one function for both would take a closure to read two fields.
 #[tactic(auto, unfolding(crate::specs::Table::reading_refusal, crate::specs::State::facts_of, crate::specs::Record::mark))]
 pub fn reading_refusal(st: State, r: &[u8; 40]) -> Result<(), Refusal>
     ensures { outcome_of result ≡ reading_refusal (facts_of st) r.now }

@@ -1,4 +1,4 @@
-// Closings: the figures that the pairs that wait give, and whether a stored closing has them. State and record stay two, as in `apply`.
+// Closings: the figures that the pairs that wait give, and whether a stored closing has them. State and record stay two, as in `applying`.
 ghost use Rattle.std.specs.Prelude.{◌≡◌, Ok, ◌≤◌, map, not, take};
 ghost use Rattle.refusals.specs.Rows.{outcome_of, ◌when◌};
 ghost use Rattle.calibration.specs.Pairs.{ZRanged};

@@ -11,8 +11,8 @@ use Rattle.records.specs.RecordLaws.{value_fields, ValueFields}
 use Rattle.records.specs.Kinds.{line_of, outside_by, Calibration}
 use Rattle.records.specs.Soundness.{CalibrationSound}
 use borrow.Author.Rules.{rules}
-use Rattle.records.proofs.apply.outside.Goals as goal
-use Rattle.records.proofs.apply.outside.Goals.{After-field_at}
+use Rattle.records.proofs.applying.outside.Goals as goal
+use Rattle.records.proofs.applying.outside.Goals.{After-field_at}
 
 module _ (c : After-field_at) where
   fields : ValueFields c.args.r.now

@@ -12,8 +12,8 @@ use Rattle.records.specs.Kinds.{point_of}
 use Rattle.records.specs.State.{chart_of}
 use Rattle.records.specs.StateParts.{with_reading}
 use Rattle.records.proofs.ApplyLaws.{chart_room, chart_sound}
-use Rattle.records.proofs.apply.take_reading.Goals as goal
-use Rattle.records.proofs.apply.take_reading.Goals.{After-difference_of-d}
+use Rattle.records.proofs.applying.take_reading.Goals as goal
+use Rattle.records.proofs.applying.take_reading.Goals.{After-difference_of-d}
 
 back : (c : After-difference_of-d) → to_z w32 (of_z w32 c.difference_of-d.result) ≡ difference_of c.args.r.now
 back c = to_z-of_z {w = w32} (record { sfits = c.difference_of-d.type_inv }) ∙ c.difference_of-d.ensures

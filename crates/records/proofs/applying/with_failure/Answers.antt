@@ -1,7 +1,7 @@
 -- `apply::with_failure` meets its contract.
 use Rattle.records.specs.StateParts.{with_failure}
 use Rattle.records.proofs.ApplyLaws.{raised_or}
-use Rattle.records.proofs.apply.with_failure.Goals as goal
+use Rattle.records.proofs.applying.with_failure.Goals as goal
 
 pub returns : goal.returns
 unfolding with_failure

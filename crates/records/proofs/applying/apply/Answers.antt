@@ -13,8 +13,8 @@ use Rattle.records.proofs.SoundnessLaws.{setting_known}
 use Rattle.records.specs.declared.state.State.{State}
 use Rattle.records.proofs.ApplyLaws.{judged_total, judged_outside, applied_setting, applied_reading, applied_reset, applied_pair, applied_calibration, applied_annual, calibration_by, annual_by, applied_value, applied_drop}
 use borrow.Author.Rules.{rules}
-use Rattle.records.proofs.apply.apply.Goals as goal
-use Rattle.records.proofs.apply.apply.Goals.{Start, After-judged-s}
+use Rattle.records.proofs.applying.apply.Goals as goal
+use Rattle.records.proofs.applying.apply.Goals.{Start, After-judged-s}
 
 -- the array has thirty places: what its type says stands among what is known of the fields, at the ninth
 places : (c : Start) → length c.args.st.pairs ≡ 30

@@ -10,7 +10,7 @@ use Rattle.records.proofs.TableLaws.{accepted}
 use Rattle.records.proofs.SoundnessLaws.{setting_known}
 use Rattle.records.proofs.ApplyLaws.{applied_value}
 use Rattle.records.proofs.InPlaceLaws.{in_place}
-use Rattle.records.proofs.apply.value.Goals as goal
+use Rattle.records.proofs.applying.value.Goals as goal
 
 pub count_value-requires-clause-figures : goal.count_value-requires-clause-figures
 unfolding kind sets

@@ -9,7 +9,7 @@ use Rattle.records.specs.declared.state.State.{State}
 use Rattle.records.proofs.TableLaws.{accepted, reading_passed}
 use Rattle.records.proofs.ApplyLaws.{applied_reading}
 use Rattle.records.proofs.InPlaceLaws.{in_place}
-use Rattle.records.proofs.apply.reading.Goals as goal
+use Rattle.records.proofs.applying.reading.Goals as goal
 
 pub take_reading-requires : goal.take_reading-requires
 unfolding kind facts_of reading_refusal

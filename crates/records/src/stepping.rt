@@ -1,4 +1,4 @@
-// One record: refused, or applied to the state. State and record stay two, as in `apply`.
+// One record: refused, or applied to the state. State and record stay two, as in `applying`.
 ghost use Rattle.std.specs.Prelude.{◌≡◌, true, false};
 ghost use Rattle.refusals.specs.Rows.{outcome_of};
 ghost use Rattle.records.specs.Record.{ranged_of};
@@ -7,7 +7,7 @@ ghost use Rattle.records.specs.Table.{kind_refusal, misplaced, refusal_in};
 ghost use Rattle.records.specs.State.{facts_of, step_of, stepped};
 
 use crate::state::State;
-use crate::{apply, bytes, checks, closing, layout, ranges};
+use crate::{applying, bytes, checks, closing, layout, ranges};
 use refusals::Refusal;
 
 // The rows of a record's own kind.
@@ -57,5 +57,5 @@ pub fn step(st: State, r: &[u8; 40]) -> Result<State, Refusal>
     ensures { stepped st result ≡ step_of st r.now }
 {
     refusal(st, r)?;
-    Ok(apply::apply(st, r))
+    Ok(applying::apply(st, r))
 }

@@ -8,8 +8,8 @@ use Rattle.records.specs.RecordLaws.{waiting_ranged_lem, z_ranged, z_field}
 use Rattle.records.specs.Kinds.{sets}
 use Rattle.records.specs.Soundness.{SettingSound}
 use Rattle.records.proofs.SoundnessLaws.{setting_known}
-use Rattle.records.proofs.step.kind_refusal.Goals as goal
-use Rattle.records.proofs.step.kind_refusal.Goals.{Start}
+use Rattle.records.proofs.stepping.kind_refusal.Goals as goal
+use Rattle.records.proofs.stepping.kind_refusal.Goals.{Start}
 
 -- a record of another kind than 1 finds the setting
 unset : (r : Record) (k : ℕ) → kind r ≡ k → eqb k 1 ≡ false → T (not (sets r))
