@@ -11,6 +11,5 @@ pub mod TableLaws
 pub mod SoundnessLaws
 pub mod AnswersLaws
 pub mod LentListLaws
-pub mod HalvesLaws
 pub mod WritingLaws
 pub mod ReadBackLaws
