@@ -91,11 +91,6 @@ bytes_take (suc n) (x ∷ l) b (suc at) = bytes_take n l (λ i. b (suc i)) at
 pub bytes_drop : (n : ℕ) (l : List ℕ) → AllBytes l → AllBytes (drop n l)
 bytes_drop n l b at = rw get_or-drop (b (n + at))
 
-pub bytes_append : (k l : List ℕ) → AllBytes k → AllBytes l → AllBytes (k ++ l)
-bytes_append [] l a b at = b at
-bytes_append (x ∷ k) l a b zero = a 0
-bytes_append (x ∷ k) l a b (suc at) = bytes_append k l (λ i. a (suc i)) b at
-
 -- ---- the number of some bytes gives them back
 
 module _ (bytes : List ℕ) (small : AllBytes bytes) (at : ℕ) where

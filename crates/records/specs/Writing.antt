@@ -1,4 +1,5 @@
--- Paper 01, 'Records' and 'Making blocks and closings': the forty bytes of a record from its kind, mark, minute and fields. `Record` reads them.
+-- Paper 01, 'Records' and 'Making blocks and closings': the forty bytes of a record from its kind, mark, minute and
+-- fields. `Record` reads them.
 use Rattle.std.specs.Prelude.{List, [], ◌∷◌, ◌++◌, ℕ, ◌-◌, ◌/◌, ◌%◌, ℤ, pos, negsuc, length, replicate}
 use Rattle.calibration.specs.Outcomes.{Fitted, Tested}
 use Rattle.records.specs.Bytes.{bytes32}
