@@ -6,7 +6,7 @@ ghost use Rattle.records.specs.State.{facts_of};
 ghost use Rattle.file.specs.Answered.{PlaceOfTwelve};
 ghost use Rattle.file.specs.Closings.{closing_of, closing_refusal, first_rows, made_by, made_bytes, make_of, z_fits};
 
-use crate::{Refused, forming, taking};
+use crate::{Refused, listed, turning};
 use records::State;
 use records::writing;
 use refusals::Refusal;
@@ -88,17 +88,17 @@ pub fn make_closing(
     if target.len() != 40 {
         return Err(Refusal::Length.into());
     }
-    if !forming::records_fit(0, 11, bytes.len()) {
+    if !listed::records_fit(0, 11, bytes.len()) {
         return Err(Refusal::Records.into());
     }
     if !closes(closing.kind) {
         return Err(Refusal::Records.into());
     }
-    if !taking::ready(st) {
+    if !turning::ready(st) {
         return Err(Refusal::State.into());
     }
     blocks::told(st.edition, edition)?;
-    let before = forming::run_records(taking::open(st, edition), bytes)?;
+    let before = listed::run_records(turning::open(st, edition), bytes)?;
     let place = (bytes.len() / 40) as u8;
     let record = close(before, closing).map_err(|row| Refused::at(row, place))?;
     target.copy_from_slice(&record);
