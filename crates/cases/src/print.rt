@@ -1,30 +1,20 @@
 // How values are printed.
 use charts::Alarms;
-use std::{fmt, io};
-
-// A value, or a word for none.
-#[derive(Drop)]
-pub struct Or<'a, T>(pub Option<T>, pub &'a str);
-
-impl<T: fmt::Display> fmt::Display for Or<'_, T> {
-    fn fmt<W: fmt::Write>(&self, f: &mut fmt::Formatter<W>) -> fmt::Result {
-        match &self.0 {
-            Some(x) => write!(f, "{x}"),
-            None => write!(f, "{}", self.1),
-        }
-    }
-}
+use std::io;
 
 // 1 for each alarm that is on: the rising, the falling and the precision alarm.
-#[derive(Clone, Copy)]
-pub struct Flags(pub Alarms);
+pub fn flags(rt: &impl Print, a: Alarms) -> io::Result<()> {
+    for alarm in [a.rising, a.falling, a.precision] {
+        print!(rt; "{}", u8::from(alarm))?;
+    }
+    Ok(())
+}
 
-impl fmt::Display for Flags {
-    fn fmt<W: fmt::Write>(&self, f: &mut fmt::Formatter<W>) -> fmt::Result {
-        for alarm in [self.0.rising, self.0.falling, self.0.precision] {
-            write!(f, "{}", u8::from(alarm))?;
-        }
-        Ok(())
+// A number behind its label, - where there is none.
+pub fn optional(rt: &impl Print, label: &str, n: Option<u32>) -> io::Result<()> {
+    match n {
+        Some(n) => print!(rt; "{label}{n}"),
+        None => print!(rt; "{label}-"),
     }
 }
 
