@@ -1,6 +1,19 @@
 // How values are printed.
 use charts::Alarms;
-use std::io;
+use std::{fmt, io};
+
+// A value, or a word for none.
+#[derive(Drop)]
+pub struct Or<'a, T>(pub Option<T>, pub &'a str);
+
+impl<T: fmt::Display> fmt::Display for Or<'_, T> {
+    fn fmt<W: fmt::Write>(&self, f: &mut fmt::Formatter<W>) -> fmt::Result {
+        match &self.0 {
+            Some(x) => write!(f, "{x}"),
+            None => write!(f, "{}", self.1),
+        }
+    }
+}
 
 // 1 for each alarm that is on: the rising, the falling and the precision alarm.
 pub fn flags(rt: &impl Print, a: Alarms) -> io::Result<()> {
@@ -8,14 +21,6 @@ pub fn flags(rt: &impl Print, a: Alarms) -> io::Result<()> {
         print!(rt; "{}", u8::from(alarm))?;
     }
     Ok(())
-}
-
-// A number behind its label, - where there is none.
-pub fn optional(rt: &impl Print, label: &str, n: Option<u32>) -> io::Result<()> {
-    match n {
-        Some(n) => print!(rt; "{label}{n}"),
-        None => print!(rt; "{label}-"),
-    }
 }
 
 // A name, and numbers, each behind its label.

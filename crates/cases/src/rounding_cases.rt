@@ -1,4 +1,5 @@
 // The commands `near` and `unsigned`: near(n/d), or `outside` where the call does not take such numbers.
+use crate::print::Or;
 use std::io;
 
 // The range: n within 2^62 of 0, d from 1 to 2^61.
@@ -18,15 +19,12 @@ fn try_near_unsigned(edition: u8, n: u64, d: u64) -> Option<u64> {
 }
 
 pub fn near(rt: &impl Print, edition: u8, n: i64, d: i64) -> io::Result<()> {
-    match try_near(edition, n, d) {
-        Some(q) => println!(rt; "near {n}/{d} {q}"),
-        None => println!(rt; "near {n}/{d} outside"),
-    }
+    println!(rt; "near {n}/{d} {}", Or(try_near(edition, n, d), "outside"))
 }
 
 pub fn unsigned(rt: &impl Print, edition: u8, n: u64, d: u64) -> io::Result<()> {
-    match try_near_unsigned(edition, n, d) {
-        Some(q) => println!(rt; "unsigned {n}/{d} {q}"),
-        None => println!(rt; "unsigned {n}/{d} outside"),
-    }
+    println!(rt;
+        "unsigned {n}/{d} {}",
+        Or(try_near_unsigned(edition, n, d), "outside")
+    )
 }

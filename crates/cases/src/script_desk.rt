@@ -1,6 +1,6 @@
 // What the commands of the script do: a state is brought about, records are listed, a block is formed of them or a closing made after them, blocks are
 // gathered in a run, and the run is taken. A target is filled before a call, so that a byte that was written is seen.
-use crate::print::{flags, optional};
+use crate::print::{Or, flags};
 use crate::script_command::Word;
 use crate::script_words::{to_u8, to_u32, to_usize};
 use crate::{charts_cases, script_record};
@@ -45,8 +45,8 @@ fn step(st: State, record: &[u8; 40]) -> Result<State, Refusal> {
 }
 
 // The readings of a chart; a chart that is not started has none.
-fn readings(c: Chart) -> Option<u32> {
-    c.started.then_some(c.readings)
+fn readings(c: Chart) -> Or<'static, u32> {
+    Or(c.started.then_some(c.readings), "-")
 }
 
 // The number of the row that refused a call, 0 for none, and the place of the record at fault, 255 for none, as the script's lines have them.
@@ -293,13 +293,13 @@ impl<'a, R: Print> Desk<'a, R> {
 
     fn show(&self) -> io::Result<()> {
         let st = &self.state;
-        print!(self.rt; " minute {}", st.minute)?;
-        optional(self.rt, " zero ", readings(st.zero))?;
-        optional(self.rt, " span ", readings(st.span))?;
-        print!(self.rt; " pairs {} total {}", st.pending, st.total)?;
-        print!(self.rt; " outside {} over {}", st.outside, st.over)?;
-        optional(self.rt, " call ", st.demand)?;
-        print!(self.rt; " calibration ")?;
+        print!(self.rt; " minute {} zero {}", st.minute, readings(st.zero))?;
+        print!(self.rt; " span {} pairs {}", readings(st.span), st.pending)?;
+        print!(self.rt;
+            " total {} outside {} over {}",
+            st.total, st.outside, st.over
+        )?;
+        print!(self.rt; " call {} calibration ", Or(st.demand, "-"))?;
         match st.calibration {
             Some(f) => print!(self.rt; "{} {} {} {}", f.slope, f.intercept, f.top.0, f.minute),
             None => print!(self.rt; "-"),
