@@ -1,6 +1,7 @@
 // Charts. The line of a chart has its name, s and the last difference, the sums P, M and V with their counts, the adjustments to be taken off and put on,
 // and the rising, falling and precision alarm.
-use crate::print::Flags;
+use crate::print::flags;
+use crate::script_words::to_i32;
 use charts::{Chart, Sum};
 use std::io;
 
@@ -10,7 +11,7 @@ pub fn fresh() -> Chart {
 
 // A reading, where the chart and the difference are in the range that `apply` asks for; else the chart as it is.
 fn applied(edition: u8, c: Chart, s: u16, d: i64) -> Chart {
-    let Ok(d) = i32::try_from(d) else {
+    let Some(d) = to_i32(d) else {
         return c;
     };
     if !c.sound() || 100000 <= c.readings || !charts::difference_ranged(d) {
@@ -25,8 +26,9 @@ pub fn show(rt: &impl Print, name: &[u8], s: u16, c: Chart) -> io::Result<()> {
     for (letter, u) in [("P", c.rising), ("M", c.falling), ("V", c.precision)] {
         print!(rt; " {letter} {} {}", u.value, u.count)?;
     }
-    print!(rt; " off {} on {}", c.downward, c.upward)?;
-    println!(rt; " alarms {}", Flags(c.alarms(s)))
+    print!(rt; " off {} on {} alarms ", c.downward, c.upward)?;
+    flags(rt, c.alarms(s))?;
+    println!(rt)
 }
 
 // Applies the differences one after the other, with a line for each.

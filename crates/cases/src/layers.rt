@@ -1,7 +1,7 @@
 // The commands of the layers below the records: rounding, charts and calibration. Each is None where the numbers of its line are not those that it takes.
 use crate::listed_pairs::Listed;
 use crate::script_command::Word;
-use crate::script_words::{first_word, fixed, unsigned};
+use crate::script_words::{first_word, fixed, to_i32, to_u8, to_u16, to_u32, to_usize, unsigned};
 use crate::{calibration_cases as calls, charts_cases, rounding_cases};
 use calibration::{Basis, Conditions, Line, Requirements};
 use charts::{Chart, Sum};
@@ -40,12 +40,12 @@ impl<'a, R: Print> Layers<'a, R> {
         let [edition] = numbers else {
             return None;
         };
-        self.edition = u8::try_from(*edition).ok()?;
+        self.edition = to_u8(*edition)?;
         Some(Ok(()))
     }
 
     fn series(&mut self, name: &[u8], s: i64, ds: &[i64]) -> Option<io::Result<()>> {
-        let s = u16::try_from(s).ok()?;
+        let s = to_u16(s)?;
         let (rt, c) = (self.rt, &mut self.chart);
         Some(charts_cases::series(rt, self.edition, c, name, s, ds))
     }
@@ -61,20 +61,20 @@ impl<'a, R: Print> Layers<'a, R> {
             }
             (Word::More, [s, ds @ ..]) => return self.series(name, *s, ds),
             (Word::Chart, [s]) => {
-                let s = u16::try_from(*s).ok()?;
+                let s = to_u16(*s)?;
                 return Some(charts_cases::show(self.rt, name, s, self.chart));
             }
             (Word::Fill, [n, s, ds @ ..]) => {
-                let s = u16::try_from(*s).ok()?;
+                let s = to_u16(*s)?;
                 charts_cases::fill(self.edition, &mut self.chart, *n, s, ds);
             }
             (Word::Sound, [readings, last, value, count]) => {
                 let p = Sum {
-                    value: u64::try_from(*value).ok()?,
-                    count: u32::try_from(*count).ok()?,
+                    value: value.cast_unsigned(),
+                    count: to_u32(*count)?,
                 };
-                let readings = u32::try_from(*readings).ok()?;
-                let last = i32::try_from(*last).ok()?;
+                let readings = to_u32(*readings)?;
+                let last = to_i32(*last)?;
                 return Some(charts_cases::sound(self.rt, name, readings, last, p));
             }
             _ => return None,
@@ -112,10 +112,10 @@ impl<'a, R: Print> Layers<'a, R> {
         let [t, p, h, o, reference] = fixed::<5>(rest)?;
         let k = conditions_of([t, p, h, o]);
         let l = Line {
-            slope: i32::try_from(*slope).ok()?,
+            slope: to_i32(*slope)?,
             intercept: *intercept,
         };
-        let x = i32::try_from(*x).ok()?;
+        let x = to_i32(*x)?;
         let value = calls::try_value(self.edition, reference, l, k, x);
         let labels = [" ", " B ", " A ", " t ", " p ", " h ", " o ", " reference "];
         Some(calls::value_line(self.rt, b"value", &labels, numbers, value))
@@ -125,7 +125,7 @@ impl<'a, R: Print> Layers<'a, R> {
     pub fn list(&mut self, word: Word, numbers: &[i64]) -> Option<io::Result<()>> {
         match (word, numbers) {
             (Word::Pairs, _) => self.listed.list(numbers)?,
-            (Word::Pair, [n, x, y]) => self.listed.change(usize::try_from(*n).ok()?, *x, *y)?,
+            (Word::Pair, [n, x, y]) => self.listed.change(to_usize(*n)?, *x, *y)?,
             (Word::Conditions, _) => {
                 let [t, p, h, o, t2, p2, h2, o2] = fixed::<8>(numbers)?;
                 self.listed.first = conditions_of([t, p, h, o]);
@@ -150,7 +150,7 @@ impl<'a, R: Print> Layers<'a, R> {
     pub fn fit(&mut self, word: Word, name: &[u8], numbers: &[i64]) -> Option<io::Result<()>> {
         let [n, limit, uncertainty, oxygen, z] = fixed::<5>(numbers)?;
         let b = self.basis(limit, uncertainty, oxygen);
-        let pairs = self.listed.first(usize::try_from(n).ok()?)?;
+        let pairs = self.listed.first(to_usize(i64::from(n))?)?;
         let fit = match word {
             Word::Lent => Some(calibration::fit_list(pairs, b, z)),
             _ => calls::try_fit(pairs, b, z),
@@ -166,12 +166,12 @@ impl<'a, R: Print> Layers<'a, R> {
             return None;
         };
         let [n, uncertainty, oxygen, slope] = fixed::<4>(head)?;
-        let b = self.basis(i32::try_from(*limit).ok()?, uncertainty, oxygen);
+        let b = self.basis(to_i32(*limit)?, uncertainty, oxygen);
         let l = Line {
             slope,
             intercept: *intercept,
         };
-        let pairs = self.listed.first(usize::try_from(n).ok()?)?;
+        let pairs = self.listed.first(to_usize(i64::from(n))?)?;
         let test = calls::try_annual(pairs, b, l);
         Some(calls::annual_line(self.rt, name, rest, test))
     }

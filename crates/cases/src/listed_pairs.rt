@@ -1,4 +1,5 @@
 // The pairs of the commands `pairs` and `pair`, for fits and annual tests.
+use crate::script_words::to_i32;
 use arrayvec::ArrayVec;
 use calibration::{Actual, Conditions, Pair};
 
@@ -36,8 +37,8 @@ impl Listed {
             self.others
         };
         let pair = Pair {
-            signal: i32::try_from(signal).ok()?,
-            srm: Actual(i32::try_from(value).ok()?),
+            signal: to_i32(signal)?,
+            srm: Actual(to_i32(value)?),
             conditions,
         };
         self.pairs.try_push(pair).ok()
@@ -68,8 +69,8 @@ impl Listed {
     pub fn change(&mut self, n: usize, signal: i64, value: i64) -> Option<()> {
         self.first(n)?;
         let pair = self.pairs.get_mut(n.checked_sub(1)?)?;
-        pair.signal = i32::try_from(signal).ok()?;
-        pair.srm = Actual(i32::try_from(value).ok()?);
+        pair.signal = to_i32(signal)?;
+        pair.srm = Actual(to_i32(value)?);
         Some(())
     }
 }

@@ -16,16 +16,11 @@ impl<T: fmt::Display> fmt::Display for Or<'_, T> {
 }
 
 // 1 for each alarm that is on: the rising, the falling and the precision alarm.
-#[derive(Clone, Copy)]
-pub struct Flags(pub Alarms);
-
-impl fmt::Display for Flags {
-    fn fmt<W: fmt::Write>(&self, f: &mut fmt::Formatter<W>) -> fmt::Result {
-        for alarm in [self.0.rising, self.0.falling, self.0.precision] {
-            write!(f, "{}", u8::from(alarm))?;
-        }
-        Ok(())
+pub fn flags(rt: &impl Print, a: Alarms) -> io::Result<()> {
+    for alarm in [a.rising, a.falling, a.precision] {
+        print!(rt; "{}", u8::from(alarm))?;
     }
+    Ok(())
 }
 
 // A name, and numbers, each behind its label.

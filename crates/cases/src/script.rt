@@ -3,7 +3,7 @@
 use crate::layers::Layers;
 use crate::script_command::{Word, word_of};
 use crate::script_desk::{self, Desk};
-use crate::script_words::{first_word, numbers, unsigned};
+use crate::script_words::{first_word, number, numbers, to_u8};
 use arrayvec::ArrayVec;
 use std::io;
 use std::io::Read;
@@ -91,7 +91,7 @@ impl<R: Print> Script<'_, R> {
 fn again(line: &[u8]) -> Option<u8> {
     let (word, edition) = first_word(line);
     match word_of(word)? {
-        Word::Again => u8::try_from(unsigned(edition)?).ok(),
+        Word::Again => to_u8(number(edition)?),
         _ => None,
     }
 }

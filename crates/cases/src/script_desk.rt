@@ -1,7 +1,8 @@
 // What the commands of the script do: a state is brought about, records are listed, a block is formed of them or a closing made after them, blocks are
 // gathered in a run, and the run is taken. A target is filled before a call, so that a byte that was written is seen.
-use crate::print::{Flags, Or};
+use crate::print::{Or, flags};
 use crate::script_command::Word;
+use crate::script_words::{to_u8, to_u32, to_usize};
 use crate::{charts_cases, script_record};
 use arrayvec::ArrayVec;
 use charts::Chart;
@@ -58,7 +59,7 @@ fn row_and_place(refused: Option<Refused>) -> (u32, u8) {
 
 // The first `size` bytes of a target.
 fn asked(target: &mut [u8; TARGET], size: i64) -> Option<&mut [u8]> {
-    target.get_mut(..usize::try_from(size).ok()?)
+    target.get_mut(..to_usize(size)?)
 }
 
 // The check of some bytes.
@@ -99,25 +100,23 @@ impl<'a, R: Print> Desk<'a, R> {
     // Commands on the state. Like `obey_file`, None where the line is no command: each command has numbers of its own.
     pub fn obey(&mut self, word: Word, numbers: &[i64]) -> Option<io::Result<()>> {
         match (word, numbers) {
-            (Word::New, [analyser]) => {
-                self.state = records::initial(u32::try_from(*analyser).ok()?)
-            }
+            (Word::New, [analyser]) => { self.state = records::initial(to_u32(*analyser)?) }
             (Word::Record, [kind, mark, minute, fields @ ..]) => {
                 self.record = script_record::record_of(*kind, *mark, *minute, fields)?
             }
             (Word::Byte, [at, byte]) => {
-                let place = self.record.get_mut(usize::try_from(*at).ok()?)?;
-                *place = u8::try_from(*byte).ok()?;
+                let place = self.record.get_mut(to_usize(*at)?)?;
+                *place = to_u8(*byte)?;
             }
             (Word::Apply, []) => return Some(self.apply(1, 0)),
             (Word::Apply, [times]) => return Some(self.apply(*times, 0)),
             (Word::Apply, [times, apart]) => {
-                return Some(self.apply(*times, u32::try_from(*apart).ok()?));
+                return Some(self.apply(*times, to_u32(*apart)?));
             }
             (Word::Keep, []) => self.kept = self.state,
             (Word::Back, []) => self.state = self.kept,
-            (Word::Expect, [block]) => self.state.next = u32::try_from(*block).ok()?,
-            (Word::Open, [edition]) => self.state.edition = u8::try_from(*edition).ok()?,
+            (Word::Expect, [block]) => self.state.next = to_u32(*block)?,
+            (Word::Open, [edition]) => self.state.edition = to_u8(*edition)?,
             (Word::Show, []) => return Some(self.show()),
             (Word::Charts, []) => return Some(self.charts()),
             (Word::Report, []) => return Some(self.report()),
@@ -151,14 +150,14 @@ impl<'a, R: Print> Desk<'a, R> {
                 let closing = script_record::closing_of(*kind, *minute, *z)?;
                 Some(self.make(edition, closing, *size, *less))
             }
-            (Word::Take, [size]) => Some(self.take(usize::try_from(*size).ok()?)),
+            (Word::Take, [size]) => Some(self.take(to_usize(*size)?)),
             (Word::Poke, [at, byte]) => {
-                let byte = u8::try_from(*byte).ok()?;
-                Some(self.poke(usize::try_from(*at).ok()?, byte))
+                let byte = to_u8(*byte)?;
+                Some(self.poke(to_usize(*at)?, byte))
             }
-            (Word::Seal, [block]) => Some(self.seal(usize::try_from(*block).ok()?)),
+            (Word::Seal, [block]) => Some(self.seal(to_usize(*block)?)),
             (Word::Bytes, [from, to]) => {
-                let (from, to) = (usize::try_from(*from).ok()?, usize::try_from(*to).ok()?);
+                let (from, to) = (to_usize(*from)?, to_usize(*to)?);
                 Some(self.bytes(from, to))
             }
             _ => None,
@@ -199,7 +198,7 @@ impl<'a, R: Print> Desk<'a, R> {
     // The listed bytes, but for their last `less`.
     fn listed(&self, less: i64) -> Option<&[u8]> {
         let list = self.list.as_slice();
-        list.get(..list.len().checked_sub(usize::try_from(less).ok()?)?)
+        list.get(..list.len().checked_sub(to_usize(less)?)?)
     }
 
     // A block of the listed records, but for their last `less` bytes, in a target of `size` bytes. A block that was formed goes behind the run, and the
@@ -317,12 +316,11 @@ impl<'a, R: Print> Desk<'a, R> {
     // The six alarms and usable.
     fn report(&self) -> io::Result<()> {
         let r = file::reporting::report(self.state);
+        print!(self.rt; " alarms ")?;
+        flags(self.rt, r.zero)?;
+        flags(self.rt, r.span)?;
         // By hand: a bool prints true and false.
         let usable = if r.usable { "yes" } else { "no" };
-        print!(self.rt;
-            " alarms {}{} usable {usable}",
-            Flags(r.zero),
-            Flags(r.span)
-        )
+        print!(self.rt; " usable {usable}")
     }
 }

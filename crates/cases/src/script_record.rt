@@ -1,4 +1,5 @@
 // Records and closings, from the numbers of a line.
+use crate::script_words::{to_i32, to_u8, to_u32};
 use arrayvec::ArrayVec;
 use file::Closing;
 
@@ -17,11 +18,11 @@ fn field_bytes(kind: i64, fields: &[i64]) -> Option<ArrayVec<u8, 32>> {
 
 // The forty bytes of a record: kind, mark and minute, and the fields from byte 8 on.
 pub fn record_of(kind: i64, mark: i64, minute: i64, fields: &[i64]) -> Option<[u8; 40]> {
-    let minute = u32::try_from(minute).ok()?;
+    let minute = to_u32(minute)?;
     let fields = field_bytes(kind, fields)?;
     let mut record = [0; 40];
-    record[0] = u8::try_from(kind).ok()?;
-    record[1] = u8::try_from(mark).ok()?;
+    record[0] = to_u8(kind)?;
+    record[1] = to_u8(mark)?;
     record[4..8].copy_from_slice(&minute.to_le_bytes());
     for (place, byte) in record[8..].iter_mut().zip(fields.as_slice()) {
         *place = *byte;
@@ -37,8 +38,8 @@ pub fn move_on(record: &mut [u8; 40], d: u32) {
 
 pub fn closing_of(kind: i64, minute: i64, z: i64) -> Option<Closing> {
     Some(Closing {
-        kind: u8::try_from(kind).ok()?,
-        minute: u32::try_from(minute).ok()?,
-        z: i32::try_from(z).ok()?,
+        kind: to_u8(kind)?,
+        minute: to_u32(minute)?,
+        z: to_i32(z)?,
     })
 }

@@ -12,7 +12,7 @@ pub fn first_word(line: &[u8]) -> (&[u8], &[u8]) {
     }
 }
 
-fn number(word: &[u8]) -> Option<i64> {
+pub fn number(word: &[u8]) -> Option<i64> {
     if word.starts_with(b"+") {
         return None;
     }
@@ -35,6 +35,28 @@ pub fn numbers(text: &[u8]) -> Option<ArrayVec<i64, NUMBERS>> {
     Some(numbers)
 }
 
+// ---- a number of another type, where it fits
+
+pub fn to_u8(n: i64) -> Option<u8> {
+    u8::try_from(n).ok()
+}
+
+pub fn to_u16(n: i64) -> Option<u16> {
+    u16::try_from(n).ok()
+}
+
+pub fn to_i32(n: i64) -> Option<i32> {
+    i32::try_from(n).ok()
+}
+
+pub fn to_u32(n: i64) -> Option<u32> {
+    u32::try_from(n).ok()
+}
+
+pub fn to_usize(n: i64) -> Option<usize> {
+    usize::try_from(n).ok()
+}
+
 // N numbers, where there are as many, each of 32 bits.
 pub fn fixed<const N: usize>(numbers: &[i64]) -> Option<[i32; N]> {
     if numbers.len() != N {
@@ -42,7 +64,7 @@ pub fn fixed<const N: usize>(numbers: &[i64]) -> Option<[i32; N]> {
     }
     let mut fixed = [0; N];
     for (place, n) in fixed.iter_mut().zip(numbers) {
-        *place = i32::try_from(*n).ok()?;
+        *place = to_i32(*n)?;
     }
     Some(fixed)
 }
