@@ -7,8 +7,7 @@ ghost use Rattle.file.specs.Answered.{PlaceOfTwelve};
 ghost use Rattle.file.specs.Closings.{closing_of, closing_refusal, first_rows, made_by, made_bytes, make_of, z_fits};
 
 use crate::{Refused, listed, turning};
-use records::State;
-use records::writing;
+use records::{State, writing};
 use refusals::Refusal;
 
 // A closing to be made: its kind, its minute, and Z for a calibration. The kind is a record's byte, as any byte may be asked for: row 6 stops one that
