@@ -7,7 +7,7 @@ pub mod FormLaws
 pub mod BlockRoundTrip
 pub mod Taking
 pub mod Calls
-pub mod FitLaws
+pub mod RoomLaws
 pub mod Statement
 pub mod Answered
 pub mod Closings
