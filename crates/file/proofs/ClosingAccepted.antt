@@ -34,7 +34,7 @@ use Rattle.records.specs.declared.state.Waiting.{Waiting}
 use Rattle.records.specs.declared.state.State.{State}
 use Rattle.file.specs.Calls.{opened}
 use Rattle.file.specs.Answered.{ran_of}
-use Rattle.file.specs.FitLaws.{fit_size}
+use Rattle.file.specs.RoomLaws.{fit_size}
 use Rattle.file.specs.Closings.{first_rows, closing_of, closing_refusal, make_of, made_bytes}
 use Rattle.file.proofs.ClosingLaws.{first_passed, passed_begun, passed_time, passed_z, calibration_row, annual_row, calibration_bytes, annual_bytes, z_in_range, begun_setting, before_sound, bytes_made, made_passes}
 

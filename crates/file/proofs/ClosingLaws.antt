@@ -21,8 +21,8 @@ use Rattle.records.specs.declared.state.State.{State}
 use Rattle.blocks.specs.Blocks.{told_refusal}
 use Rattle.file.specs.Taking.{records, records_fit}
 use Rattle.file.specs.Calls.{opened, ready_of}
-use Rattle.file.specs.FitLaws.{opened_pairs, opened_ready}
-use Rattle.file.specs.FitLaws.{ready_fit, within_none, within_ran}
+use Rattle.file.specs.RoomLaws.{opened_pairs, opened_ready}
+use Rattle.file.specs.RoomLaws.{ready_fit, within_none, within_ran}
 use Rattle.file.proofs.CallsLaws.{records_length}
 use Rattle.file.specs.Answered.{PlaceOfTwelve, index_of, ran_of}
 use Rattle.file.specs.declared.Refused.{Refused}

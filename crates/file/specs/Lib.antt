@@ -1,6 +1,6 @@
 pub mod Taking
 pub mod Calls
-pub mod FitLaws
+pub mod RoomLaws
 pub mod Statement
 pub mod Answered
 pub mod Closings

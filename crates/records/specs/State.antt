@@ -87,7 +87,7 @@ turns_from before after = ltb (week_of before) (week_of after)
 unfoldable pub judged_at : State → ℕ → Tally
 judged_at st m = if turns_from st.minute m then st.tally else no_values
 
--- the week that m goes on with
+-- the values of the week of m before it: none yet where m begins a later week
 unfoldable pub running_at : State → ℕ → Tally
 running_at st m = if turns_from st.minute m then no_values else st.tally
 

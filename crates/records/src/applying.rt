@@ -74,7 +74,7 @@ fn judged_week(st: State, m: u32) -> Tally
     st.tally
 }
 
-// The week that m goes on with.
+// The values of the week of m before it: none yet where m begins a later week.
 #[tactic(auto, unfolding(crate::specs::State::running_at, crate::specs::Kinds::no_values))]
 fn running_week(st: State, m: u32) -> Tally
     ensures { result ≡ running_at st m }

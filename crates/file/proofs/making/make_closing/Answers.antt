@@ -10,7 +10,7 @@ use Rattle.records.specs.declared.state.State.{State}
 use Rattle.file.specs.Answered.{Appended, index_of, ran_of}
 use Rattle.file.specs.Calls.{opened, ready_of}
 use Rattle.file.specs.Closings.{closing_of, closing_refusal, made, make_of}
-use Rattle.file.specs.FitLaws.{fit_size, opened_ready}
+use Rattle.file.specs.RoomLaws.{fit_size, opened_ready}
 use Rattle.file.specs.Taking.{records_fit}
 use Rattle.file.specs.declared.Refused.{Refused}
 use Rattle.file.proofs.ClosingLaws as L
