@@ -2,7 +2,7 @@
 use Rattle.std.specs.Prelude.{◌≡◌, refl, Bool, true, false, List, ◌∷◌, ℤ, pos, ◌-ℤ◌, length, replicate, ◌<ℤ◌}
 use Rattle.std.proofs.Common.{ap, arith}
 use Rattle.charts.specs.Integers.{diff, le_ud, ud_lt}
-use Rattle.charts.specs.Rounding.{odd, rounds_up, near_of}
+use Rattle.charts.specs.Rounding.{odd, rounds_up_of, near_of}
 use Rattle.charts.proofs.RoundingLaws.{near_whole}
 use Rattle.charts.proofs.ChartCases.{ChartCases, chart_cases}
 use Rattle.calibration.specs.Pairs.{OxygenRanged}
@@ -40,7 +40,7 @@ pub record Cases : Type 0 where
 -- the oxygen factor is then 1
 standard_is : (o : ℤ) → OxygenRanged o
     → standard_of 1 o (record { temperature = pos 10000; pressure = pos 0; water = pos 1000; oxygen = o }) (record { 0 = pos 10000 }) ≡ record { 0 = pos 15179 }
-unfolding standard_of near_of rounds_up odd
+unfolding standard_of near_of rounds_up_of odd
 standard_is o O =
     let d : pos 0 <ℤ (pos 2100 -ℤ o) = ud_lt (omega (arith, le_ud O.high, diff (pos 2100) o)) in
     ap (λ (z : ℤ). record { 0 = z }) (near_whole 1 (pos 15179) (pos 2100 -ℤ o) d)

@@ -5,7 +5,7 @@ use Rattle.std.proofs.Math.Facts.{T_not-not}
 use Rattle.std.specs.Int.Signed.{le_z}
 use Rattle.charts.specs.Tests.{if_all, is_true}
 use Rattle.calibration.specs.Pairs.{between_answers, AllRanged, RequirementsRanged, ZRanged}
-use Rattle.calibration.specs.Calibration.{LineRanged, count_fits, divisor_of, fit_from, fit_of, flat_of, intercept_of, line_fits, refused_fit, slope_of, slope_ranged_of, some_beyond, sums_of}
+use Rattle.calibration.specs.Calibration.{LineRanged, count_fits_of, divisor_of, fit_from_of, fit_of, flat_of, intercept_of, line_fits_of, refused_fit, slope_of, slope_ranged_of, some_beyond, sums_of}
 use Rattle.calibration.proofs.SumLaws.{sums_ranged}
 use Rattle.calibration.proofs.SizeLaws.{line_ranged}
 use Rattle.calibration.proofs.VerdictLaws.{count_above}
@@ -26,13 +26,13 @@ unfolding sums_of
 counted ps h = h
 
 module _ (edition : ℕ) (q : Requirements) (z : ℤ) (ps : List Pair) where
-  line_fits_ranges : (l : Line) → LineRanged l → Ranges (line_fits edition q ps l)
-  unfolding line_fits
+  line_fits_ranges : (l : Line) → LineRanged l → Ranges (line_fits_of edition q ps l)
+  unfolding line_fits_of
   line_fits_ranges l L = if_all Ranges (some_beyond edition q.oxygen l ps) _ _ (λ t. refused_ranges 24 (omega arith)) (λ t e. L)
 
   module _ (Z : ZRanged z) (all : AllRanged ps) (few : length ps ≤ 30) (some : 0 < length ps) where
-    from_ranges : Ranges (fit_from edition q z ps (sums_of ps))
-    unfolding fit_from
+    from_ranges : Ranges (fit_from_of edition q z ps (sums_of ps))
+    unfolding fit_from_of
     from_ranges =
         let flat = flat_of edition q ps in
         let b = slope_of edition flat (sums_of ps) z in
@@ -45,5 +45,5 @@ pub fitted_ranged : (edition : ℕ) (q : Requirements) (z : ℤ) (ps : List Pair
     → (fit_of edition q z ps).refusal ≡ 0 → LineRanged (fit_of edition q z ps).line
 unfolding fit_of
 fitted_ranged edition q z ps Q Z all few =
-    if_all Ranges (not (count_fits (length ps))) _ _ (λ t. refused_ranges 20 (omega arith))
-    (λ t. from_ranges edition q z ps Z all few (count_above (length ps) (is_true (count_fits (length ps)) (T_not-not (count_fits (length ps)) t))))
+    if_all Ranges (not (count_fits_of (length ps))) _ _ (λ t. refused_ranges 20 (omega arith))
+    (λ t. from_ranges edition q z ps Z all few (count_above (length ps) (is_true (count_fits_of (length ps)) (T_not-not (count_fits_of (length ps)) t))))

@@ -10,8 +10,8 @@ use Rattle.calibration.specs.declared.line.Line.{Line}
 pub use Rattle.calibration.specs.Outcomes.{Tested, refused_test}
 
 -- the counts that an annual test may have
-unfoldable pub annual_count_fits : ℕ → Bool
-annual_count_fits n = leb 5 n && leb n 8
+unfoldable pub annual_count_fits_of : ℕ → Bool
+annual_count_fits_of n = leb 5 n && leb n 8
 
 unfoldable pub annual_k_of : ℕ → ℕ
 annual_k_of n =
@@ -44,7 +44,7 @@ function_holds_of n sum q σ =
 unfoldable pub test_of : ℕ → Requirements → Line → List Pair → Tested
 test_of edition q l ps =
     let ds : List ℤ = deviations_of edition q.oxygen l ps in
-    if not (annual_count_fits (length ps)) then refused_test 20
+    if not (annual_count_fits_of (length ps)) then refused_test 20
     else (if some_beyond edition q.oxygen l ps then refused_test 24
     else record {
       refusal = 0;

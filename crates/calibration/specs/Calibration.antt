@@ -172,8 +172,8 @@ residuals_of edition reference l ps = record {
 -- ---- the verdict
 
 -- the counts that a calibration may have
-unfoldable pub count_fits : ℕ → Bool
-count_fits n = leb 15 n && leb n 20 || (eqb n 25 || eqb n 30)
+unfoldable pub count_fits_of : ℕ → Bool
+count_fits_of n = leb 15 n && leb n 20 || (eqb n 25 || eqb n 30)
 
 unfoldable pub k_of : ℕ → ℕ
 k_of n =
@@ -194,8 +194,8 @@ varied_of n q σ = le_z (pos 100000000 *ℤ q) (pos (n * (n - 1)) *ℤ (σ *ℤ 
 -- ---- the outcome: refusals 20, 22, 23 and 24 in this order, or the figures and the verdict
 
 -- the function stands: 24, or the verdict
-unfoldable pub line_fits : ℕ → Requirements → List Pair → Line → Fitted
-line_fits edition q ps l =
+unfoldable pub line_fits_of : ℕ → Requirements → List Pair → Line → Fitted
+line_fits_of edition q ps l =
     if some_beyond edition q.oxygen l ps then refused_fit 24
     else record {
       refusal = 0;
@@ -206,18 +206,18 @@ line_fits edition q ps l =
     }
 
 -- from the sums on: 22, 23, then the function
-unfoldable pub fit_from : ℕ → Requirements → ℤ → List Pair → Sums → Fitted
-fit_from edition q z ps u =
+unfoldable pub fit_from_of : ℕ → Requirements → ℤ → List Pair → Sums → Fitted
+fit_from_of edition q z ps u =
     let flat : Bool = flat_of edition q ps in
     let b : ℤ = slope_of edition flat u z in
     if le_z (divisor_of flat u z) (pos 0) then refused_fit 22
     else (if not (slope_ranged_of b) then refused_fit 23
-    else line_fits edition q ps (record { slope = b; intercept = intercept_of edition flat u z b }))
+    else line_fits_of edition q ps (record { slope = b; intercept = intercept_of edition flat u z b }))
 
 unfoldable pub fit_of : ℕ → Requirements → ℤ → List Pair → Fitted
 fit_of edition q z ps =
-    if not (count_fits (length ps)) then refused_fit 20
-    else fit_from edition q z ps (sums_of ps)
+    if not (count_fits_of (length ps)) then refused_fit 20
+    else fit_from_of edition q z ps (sums_of ps)
 
 -- ---- the range of a function: it holds every one that a fit gives
 

@@ -1,7 +1,7 @@
 // The outcome of a calibration (paper 01, 'Calibration (6.4, 6.5)').
 ghost use Rattle.std.specs.Prelude.{◌≡◌, ◌<◌, ◌≤◌, length};
 ghost use Rattle.calibration.specs.Pairs.{AllRanged, RequirementsRanged, ZRanged};
-ghost use Rattle.calibration.specs.Calibration.{LineRanged, fit_from, fit_of, line_fits};
+ghost use Rattle.calibration.specs.Calibration.{LineRanged, fit_from_of, fit_of, line_fits_of};
 ghost use Rattle.calibration.specs.Outcomes.{fitted};
 ghost use Rattle.calibration.specs.InCode.{SumsRanged};
 
@@ -26,7 +26,7 @@ pub struct Figures {
 // A function stands: refused where a figure is far out, or the figures and the verdict.
 fn line_fits<'a>(s: Sample<'a>, l: Line) -> Result<Figures, Refusal>
     requires { LineRanged l }
-    ensures { fitted result ≡ line_fits s.entry.basis.edition s.entry.basis.requirements s.entry.pairs.now l }
+    ensures { fitted result ≡ line_fits_of s.entry.basis.edition s.entry.basis.requirements s.entry.pairs.now l }
 {
     if s.beyond(l) {
         return Err(Refusal::Beyond);
@@ -51,7 +51,7 @@ fn line_fits<'a>(s: Sample<'a>, l: Line) -> Result<Figures, Refusal>
 // From the sums on: the divisor, the slope, then the function.
 fn fit_from<'a>(s: Sample<'a>, z: i32, u: Sums) -> Result<Figures, Refusal>
     requires { ZRanged z × SumsRanged u × (0 < u.n) }
-    ensures { fitted result ≡ fit_from s.entry.basis.edition s.entry.basis.requirements z s.entry.pairs.now u }
+    ensures { fitted result ≡ fit_from_of s.entry.basis.edition s.entry.basis.requirements z s.entry.pairs.now u }
 {
     let edition = s.basis.edition;
     let r = Regression {

@@ -1,19 +1,19 @@
 // The counts of pairs, the factors, and the tests of both verdicts (paper 01, 'Calibration (6.4, 6.5)' and 'Annual test (8.4, 8.5)').
 ghost use Rattle.std.specs.Prelude.{◌≡◌, ◌-◌, ◌*◌, ◌<◌, ◌≤◌, leb, pos, nat_abs};
-ghost use Rattle.calibration.specs.Calibration.{count_fits, k_of};
-ghost use Rattle.calibration.specs.Annual.{annual_count_fits, annual_k_of, function_holds_of, t_of};
+ghost use Rattle.calibration.specs.Calibration.{count_fits_of, k_of};
+ghost use Rattle.calibration.specs.Annual.{annual_count_fits_of, annual_k_of, function_holds_of, t_of};
 
 // The numbers of pairs that a calibration takes, and those of an annual test below, are data, as the factors are.
-#[tactic(auto, using(std::proofs::lemmas::Bool::Decides::nat_tests), unfolding(crate::specs::Calibration::count_fits))]
+#[tactic(auto, using(std::proofs::lemmas::Bool::Decides::nat_tests), unfolding(crate::specs::Calibration::count_fits_of))]
 pub fn count_fits(n: u32) -> bool
-    ensures { result ≡ count_fits n }
+    ensures { result ≡ count_fits_of n }
 {
     matches!(n, 15..=20 | 25 | 30)
 }
 
-#[tactic(auto, using(std::proofs::lemmas::Bool::Decides::nat_tests), unfolding(crate::specs::Annual::annual_count_fits))]
+#[tactic(auto, using(std::proofs::lemmas::Bool::Decides::nat_tests), unfolding(crate::specs::Annual::annual_count_fits_of))]
 pub fn annual_count_fits(n: u32) -> bool
-    ensures { result ≡ annual_count_fits n }
+    ensures { result ≡ annual_count_fits_of n }
 {
     matches!(n, 5..=8)
 }

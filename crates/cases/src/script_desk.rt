@@ -102,7 +102,7 @@ impl<'a, R: Print> Desk<'a, R> {
         match (word, numbers) {
             (Word::New, [analyser]) => { self.state = records::initial(to_u32(*analyser)?) }
             (Word::Record, [kind, mark, minute, fields @ ..]) => {
-                self.record = script_record::record_of(*kind, *mark, *minute, fields)?
+                self.record = script_record::record(*kind, *mark, *minute, fields)?
             }
             (Word::Byte, [at, byte]) => {
                 let place = self.record.get_mut(to_usize(*at)?)?;
@@ -143,11 +143,11 @@ impl<'a, R: Print> Desk<'a, R> {
             (Word::Form, [size]) => Some(self.form(edition, *size, 0)),
             (Word::Form, [size, less]) => Some(self.form(edition, *size, *less)),
             (Word::Make, [kind, minute, z, size]) => {
-                let closing = script_record::closing_of(*kind, *minute, *z)?;
+                let closing = script_record::closing(*kind, *minute, *z)?;
                 Some(self.make(edition, closing, *size, 0))
             }
             (Word::Make, [kind, minute, z, size, less]) => {
-                let closing = script_record::closing_of(*kind, *minute, *z)?;
+                let closing = script_record::closing(*kind, *minute, *z)?;
                 Some(self.make(edition, closing, *size, *less))
             }
             (Word::Take, [size]) => Some(self.take(to_usize(*size)?)),

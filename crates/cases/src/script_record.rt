@@ -4,7 +4,7 @@ use arrayvec::ArrayVec;
 use file::Closing;
 
 // The bytes of the fields: four of each, but eight of the intercept of a calibration closing.
-fn field_bytes(kind: i64, fields: &[i64]) -> Option<ArrayVec<u8, 32>> {
+fn bytes_of_field(kind: i64, fields: &[i64]) -> Option<ArrayVec<u8, 32>> {
     let mut all = ArrayVec::new();
     for (i, field) in fields.iter().enumerate() {
         let bytes = field.to_le_bytes();
@@ -17,9 +17,9 @@ fn field_bytes(kind: i64, fields: &[i64]) -> Option<ArrayVec<u8, 32>> {
 }
 
 // The forty bytes of a record: kind, mark and minute, and the fields from byte 8 on.
-pub fn record_of(kind: i64, mark: i64, minute: i64, fields: &[i64]) -> Option<[u8; 40]> {
+pub fn record(kind: i64, mark: i64, minute: i64, fields: &[i64]) -> Option<[u8; 40]> {
     let minute = to_u32(minute)?;
-    let fields = field_bytes(kind, fields)?;
+    let fields = bytes_of_field(kind, fields)?;
     let mut record = [0; 40];
     record[0] = to_u8(kind)?;
     record[1] = to_u8(mark)?;
@@ -36,7 +36,7 @@ pub fn move_on(record: &mut [u8; 40], d: u32) {
     record[4..8].copy_from_slice(&minute.to_le_bytes());
 }
 
-pub fn closing_of(kind: i64, minute: i64, z: i64) -> Option<Closing> {
+pub fn closing(kind: i64, minute: i64, z: i64) -> Option<Closing> {
     Some(Closing {
         kind: to_u8(kind)?,
         minute: to_u32(minute)?,

@@ -1,6 +1,6 @@
 -- Paper 01, 'Units and rounding': its three examples of near(n/d) as facts of the definition in edition 1, and paper 02, C-12: five of edition 2.
 use Rattle.std.specs.Prelude.{◌≡◌, refl, pos, neg_ℤ}
-use Rattle.charts.specs.Rounding.{odd, rounds_up, near_of}
+use Rattle.charts.specs.Rounding.{odd, rounds_up_of, near_of}
 
 pub record RoundingCases : Type 0 where
   pub half : near_of 1 (pos 1) (pos 2) ≡ pos 1
@@ -13,7 +13,7 @@ pub record RoundingCases : Type 0 where
   pub even_minus_three_halves : near_of 2 (neg_ℤ (pos 3)) (pos 2) ≡ neg_ℤ (pos 2)
 
 pub rounding_cases : RoundingCases
-unfolding near_of rounds_up odd
+unfolding near_of rounds_up_of odd
 rounding_cases = record {
   half = refl;
   minus_half = refl;

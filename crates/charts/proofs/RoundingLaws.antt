@@ -4,7 +4,7 @@ use Rattle.std.proofs.Common.{sym, ap, ◌∙◌, subst, arith, div-le_self, div
 use Rattle.std.proofs.lemmas.Bool.{eqb-false}
 use Rattle.std.specs.Int.Signed.{shr_z, quot_z, rem_z, ≤ℤ_refl}
 use Rattle.charts.specs.Tests.{if_all, if_yes, if_no}
-use Rattle.charts.specs.Rounding.{odd, rounds_up, near_of}
+use Rattle.charts.specs.Rounding.{odd, rounds_up_of, near_of}
 use Rattle.charts.specs.Division.{Divided, division_of}
 use Rattle.charts.specs.declared.Division.{Division}
 use Rattle.charts.specs.Integers.{up, dn, sum, diff, prod, one_zero, abs_ud, abs_prod, up_neg, dn_neg, ud_eq, ud_le, ud_lt, le_ud, lt_ud, eq_ud}
@@ -36,8 +36,8 @@ floor_unique {z} {m} {p} {q} P Q = ud_eq (omega (arith, below P Q, below Q P))
 -- ---- the test of a half
 
 -- what goes up lies at a half or over it, what doesn't at a half or under it
-pub up_over : (e : ℕ) (o : Bool) (r d : ℕ) → T (rounds_up e o r d) → d ≤ 2 * r
-unfolding rounds_up
+pub up_over : (e : ℕ) (o : Bool) (r d : ℕ) → T (rounds_up_of e o r d) → d ≤ 2 * r
+unfolding rounds_up_of
 up_over e o r d t = go (ltb d (2 * r)) (eqb d (2 * r)) _ (λ t. ltb→lt d (2 * r) t) (λ t. eqb→eq d (2 * r) t) t
   where
     go : (a b w : Bool) → (T a → d < 2 * r) → (T b → d ≡ 2 * r) → T (a || b && w) → d ≤ 2 * r
@@ -45,8 +45,8 @@ up_over e o r d t = go (ltb d (2 * r)) (eqb d (2 * r)) _ (λ t. ltb→lt d (2 * 
     go false true w f g t = let l = g tt in omega arith
     go false false w f g t = absurd t
 
-down_under : (e : ℕ) (o : Bool) (r d : ℕ) → T (not (rounds_up e o r d)) → 2 * r ≤ d
-unfolding rounds_up
+down_under : (e : ℕ) (o : Bool) (r d : ℕ) → T (not (rounds_up_of e o r d)) → 2 * r ≤ d
+unfolding rounds_up_of
 down_under e o r d t = go (ltb d (2 * r)) _ (λ t. nltb→le d (2 * r) t) t
   where
     go : (a w : Bool) → (T (not a) → 2 * r ≤ d) → T (not (a || w)) → 2 * r ≤ d
@@ -54,8 +54,8 @@ down_under e o r d t = go (ltb d (2 * r)) _ (λ t. nltb→le d (2 * r) t) t
     go false w f t = f tt
 
 -- in every edition but the second a half goes up
-half_up : (e : ℕ) (o : Bool) (r d : ℕ) → (e ≡ 2 → ⊥) → T (not (rounds_up e o r d)) → 2 * r < d
-unfolding rounds_up
+half_up : (e : ℕ) (o : Bool) (r d : ℕ) → (e ≡ 2 → ⊥) → T (not (rounds_up_of e o r d)) → 2 * r < d
+unfolding rounds_up_of
 half_up e o r d n t =
     go (ltb d (2 * r)) (eqb d (2 * r)) (λ t. nltb→le d (2 * r) t) (λ k. eqb-false d (2 * r) k) (rw (ne_eqb e 2 n) at t)
   where
@@ -68,8 +68,8 @@ half_up e o r d n t =
         below l k = omega arith
 
 -- in the second it goes up from an odd whole number only
-half_even : (o : Bool) (r d : ℕ) → d ≡ 2 * r → rounds_up 2 o r d ≡ o
-unfolding rounds_up
+half_even : (o : Bool) (r d : ℕ) → d ≡ 2 * r → rounds_up_of 2 o r d ≡ o
+unfolding rounds_up_of
 half_even o r d e = rw (le-ltb d (2 * r) (omega arith), eq-eqb d (2 * r) e)
 
 -- ---- the floor and what is left over
@@ -116,7 +116,7 @@ near_halved e n m h =
     let k₃ = prod (pos 2) ((q +ℤ pos 1) *ℤ pos m) in
     let k₄ = ap (λ (k : ℕ). k * m) k₁ in
     let k₅ = sum (pos 2 *ℤ ((q +ℤ pos 1) *ℤ pos m)) (pos m) in
-    if_all (Halved n m) (rounds_up e (odd q) r m) (q +ℤ pos 1) q
+    if_all (Halved n m) (rounds_up_of e (odd q) r m) (q +ℤ pos 1) q
     (λ t. let o = up_over e (odd q) r m t in record { low = ud_le (omega arith); high = ud_le (omega arith) })
     (λ t. let o = down_under e (odd q) r m t in record { low = ud_le (omega arith); high = ud_le (omega arith) })
   where
@@ -225,7 +225,7 @@ near_first e n m h ne =
     let k₃ = ap (λ (k : ℕ). k * m) k₁ in
     let k₄ = sum ((q +ℤ pos 1) *ℤ pos (2 * m)) (pos (2 * m)) in
     floor_unique
-    (if_all (IsFloor (pos 2 *ℤ n +ℤ pos m) (2 * m)) (rounds_up e (odd q) r m) (q +ℤ pos 1) q
+    (if_all (IsFloor (pos 2 *ℤ n +ℤ pos m) (2 * m)) (rounds_up_of e (odd q) r m) (q +ℤ pos 1) q
     (λ t. let o = up_over e (odd q) r m t in record { low = ud_le (omega arith); high = ud_lt (omega arith) })
     (λ t. let o = half_up e (odd q) r m ne t in record { low = ud_le (omega arith); high = ud_lt (omega arith) }))
     (floor_is (pos 2 *ℤ n +ℤ pos m) (2 * m) (omega arith))
@@ -263,7 +263,7 @@ near_even n m h =
     let k₄ = abs_prod (pos 2) (p -ℤ n) in
     let k₅ = abs_ud (p -ℤ n) in
     let k₆ = one_zero (p -ℤ n) in
-    if_all (λ (v : ℤ). nat_abs (pos 2 *ℤ (v *ℤ pos m -ℤ n)) ≡ m → odd v ≡ false) (rounds_up 2 (odd q) r m) (q +ℤ pos 1) q
+    if_all (λ (v : ℤ). nat_abs (pos 2 *ℤ (v *ℤ pos m -ℤ n)) ≡ m → odd v ≡ false) (rounds_up_of 2 (odd q) r m) (q +ℤ pos 1) q
     (λ t e. odd_next q (rw (half_even (odd q) r m (omega arith)) at t))
     (λ t e. even (odd q) (rw (half_even (odd q) r m (omega arith)) at t))
   where
@@ -291,7 +291,7 @@ module _ (n : ℤ) (m : ℕ) (q r : ℤ) (h : pos 0 <ℤ pos m) (D : Divided n (
   rest : n -ℤ q *ℤ pos m ≡ r
   rest = ud_eq (omega (arith, eq_ud D.parts, sum (q *ℤ pos m) r, diff n (q *ℤ pos m)))
 
-  tested : (e : ℕ) → near_of e n (pos m) ≡ (if rounds_up e (odd q) (nat_abs r) m then q +ℤ pos 1 else q)
+  tested : (e : ℕ) → near_of e n (pos m) ≡ (if rounds_up_of e (odd q) (nat_abs r) m then q +ℤ pos 1 else q)
   unfolding near_of
   tested e = rw (whole, rest)
 
@@ -324,11 +324,11 @@ division_unique n (pos m) {q} {r} h D = one_division n m q r h D
 division_unique n (negsuc m) h D = absurd h.lt
 
 -- one more where the test says so, else the quotient
-pub near_up : (e : ℕ) (n d : ℤ) {q r : ℤ} → pos 0 <ℤ d → Divided n d q r → rounds_up e (odd q) (nat_abs r) (nat_abs d) ≡ true → q +ℤ pos 1 ≡ near_of e n d
+pub near_up : (e : ℕ) (n d : ℤ) {q r : ℤ} → pos 0 <ℤ d → Divided n d q r → rounds_up_of e (odd q) (nat_abs r) (nat_abs d) ≡ true → q +ℤ pos 1 ≡ near_of e n d
 near_up e n (pos m) {q} {r} h D t = sym (tested n m q r h D e ∙ if_yes _ _ _ t)
 near_up e n (negsuc m) h D t = absurd h.lt
 
-pub near_down : (e : ℕ) (n d : ℤ) {q r : ℤ} → pos 0 <ℤ d → Divided n d q r → rounds_up e (odd q) (nat_abs r) (nat_abs d) ≡ false → q ≡ near_of e n d
+pub near_down : (e : ℕ) (n d : ℤ) {q r : ℤ} → pos 0 <ℤ d → Divided n d q r → rounds_up_of e (odd q) (nat_abs r) (nat_abs d) ≡ false → q ≡ near_of e n d
 near_down e n (pos m) {q} {r} h D t = sym (tested n m q r h D e ∙ if_no _ _ _ t)
 near_down e n (negsuc m) h D t = absurd h.lt
 
@@ -359,8 +359,8 @@ pub near_shift : (e : ℕ) (n k d : ℤ) → pos 0 <ℤ d → odd k ≡ false �
 near_shift e n k (negsuc m) h o = absurd h.lt
 near_shift e n k (pos m) h o =
     tested (k *ℤ pos m +ℤ n) m (q +ℤ k) r h shifted e
-    ∙ ap (λ (b : Bool). if rounds_up e b (nat_abs r) m then (q +ℤ k) +ℤ pos 1 else (q +ℤ k)) (even_shift q k o)
-    ∙ both (rounds_up e (odd q) (nat_abs r) m)
+    ∙ ap (λ (b : Bool). if rounds_up_of e b (nat_abs r) m then (q +ℤ k) +ℤ pos 1 else (q +ℤ k)) (even_shift q k o)
+    ∙ both (rounds_up_of e (odd q) (nat_abs r) m)
     ∙ ap (λ (v : ℤ). k +ℤ v) (sym (tested n m q r h D e))
   where
     q : ℤ

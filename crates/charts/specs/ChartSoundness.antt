@@ -22,14 +22,14 @@ difference_ranged_answers d =
     (λ r. (r.low, r.high))
 
 -- a sum of at most as many terms as there are readings, and of at most `most` for each term
-pub record Within (most readings : ℕ) (u : Sum) : Type 0 where
+pub record SumWithin (most readings : ℕ) (u : Sum) : Type 0 where
   pub counted : u.count ≤ readings
   pub bounded : u.value ≤ most * u.count
 
 unfoldable pub within_of : ℕ → ℕ → Sum → Bool
 within_of most readings u = leb u.count readings && leb u.value (most * u.count)
 
-pub within_answers : (most readings : ℕ) (u : Sum) → Answers (within_of most readings u) (Within most readings u)
+pub within_answers : (most readings : ℕ) (u : Sum) → Answers (within_of most readings u) (SumWithin most readings u)
 unfolding within_of
 within_answers most readings u =
     answers_as (answers_and (answers_le u.count readings) (answers_le u.value (most * u.count)))
@@ -49,9 +49,9 @@ most_precision = 14400000000000
 pub record ChartSound (c : Chart) : Type 0 where
   pub readings : c.readings ≤ 100000
   pub last : DifferenceRanged c.last
-  pub rising : Within most_rising c.readings c.rising
-  pub falling : Within most_falling c.readings c.falling
-  pub precision : Within most_precision c.readings c.precision
+  pub rising : SumWithin most_rising c.readings c.rising
+  pub falling : SumWithin most_falling c.readings c.falling
+  pub precision : SumWithin most_precision c.readings c.precision
 
 -- the same as a test
 unfoldable pub chart_sound_of : Chart → Bool

@@ -6,23 +6,23 @@ use Rattle.charts.specs.Integers.{square, ints, sum, diff, prod, one_zero, abs_u
 use Rattle.charts.specs.Tests.{if_all}
 use Rattle.charts.specs.Sums.{empty, added}
 use Rattle.charts.specs.Charts.{rising_term, falling_term, precision_term, reset_of, applied_of, blank}
-use Rattle.charts.specs.ChartSoundness.{DifferenceRanged, Within, ChartSound, most_rising, most_falling}
+use Rattle.charts.specs.ChartSoundness.{DifferenceRanged, SumWithin, ChartSound, most_rising, most_falling}
 use Rattle.charts.specs.ChartSoundness.{most_precision}
 use Rattle.charts.specs.declared.Sum.{Sum}
 use Rattle.charts.specs.declared.Chart.{Chart}
 
 -- a term that is at most `most` keeps a sum within it
-pub added_within : (most readings : ℕ) (u : Sum) (t : ℤ) → t ≤ℤ pos most → Within most readings u
-    → Within most (readings + 1) (added u t)
+pub added_within : (most readings : ℕ) (u : Sum) (t : ℤ) → t ≤ℤ pos most → SumWithin most readings u
+    → SumWithin most (readings + 1) (added u t)
 unfolding added empty
 added_within most readings u t h W =
-    if_all (λ (w : Sum). Within most (readings + 1) w) (lt_z (pos 0) z) _ _ kept
+    if_all (λ (w : Sum). SumWithin most (readings + 1) w) (lt_z (pos 0) z) _ _ kept
     (λ f. record { counted = omega arith; bounded = omega arith })
   where
     z : ℤ
     z = pos u.value +ℤ t
 
-    kept : T (lt_z (pos 0) z) → Within most (readings + 1) (record { value = nat_abs z; count = u.count + 1 })
+    kept : T (lt_z (pos 0) z) → SumWithin most (readings + 1) (record { value = nat_abs z; count = u.count + 1 })
     kept b = record {
       counted = omega (arith, W.counted);
       bounded =
@@ -62,7 +62,7 @@ module _ (s : ℕ) {d : ℤ} (D : DifferenceRanged d) where
 zero_ranged : DifferenceRanged (pos 0)
 zero_ranged = record { low = omega ints; high = omega ints }
 
-empty_within : (most readings : ℕ) → Within most readings empty
+empty_within : (most readings : ℕ) → SumWithin most readings empty
 unfolding empty
 empty_within most readings = record { counted = omega arith; bounded = omega arith }
 

@@ -1,6 +1,6 @@
 -- A signed local holds bits, and each need of a signed operation speaks of what the machine reads back from them,
 -- `to_z w b`. `Loc w` is such a local: its bits, the number that they stand for, and that it fits. The code's steps
--- are written again on these, `add A B f` for `a + b`: the bits are those of the machine's result by computation, and
+-- are written again on_both these, `add A B f` for `a + b`: the bits are those of the machine's result by computation, and
 -- the number is the sum. `add_need A B f` is what the operation asks.
 use Rattle.std.specs.Prelude.{◌≡◌, true, false, ℕ, zero, suc, ◌/◌, ◌^◌, ◌≤◌, ◌<◌, T, ℤ, pos, negsuc, neg_ℤ, nat_abs}
 use Rattle.std.specs.Prelude.{◌+ℤ◌, ◌-ℤ◌, ◌*ℤ◌, ◌≤ℤ◌, ◌<ℤ◌}
@@ -30,20 +30,20 @@ lit {w} n h = record { bits = n; num = pos n; reads = to_z_pos w h; fit = record
 pub result : {w : Width} {y z : ℤ} → y ≡ z → SFits w z → to_z w (of_z w y) ≡ z
 result {w} {y} {z} e f = ap (λ (v : ℤ). to_z w (of_z w v)) e ∙ to_z-of_z f
 
-pub on : {w : Width} (A B : Loc w) (o : ℤ → ℤ → ℤ) → o (to_z w A.bits) (to_z w B.bits) ≡ o A.num B.num
-on {w} A B o = ap (λ (v : ℤ). o v (to_z w B.bits)) A.reads ∙ ap (o A.num) B.reads
+pub on_both : {w : Width} (A B : Loc w) (o : ℤ → ℤ → ℤ) → o (to_z w A.bits) (to_z w B.bits) ≡ o A.num B.num
+on_both {w} A B o = ap (λ (v : ℤ). o v (to_z w B.bits)) A.reads ∙ ap (o A.num) B.reads
 
 abbrev pub op : {w : Width} (o : ℤ → ℤ → ℤ) (A B : Loc w) → SFits w (o A.num B.num) → Loc w
 op {w} o A B f = record {
   bits = of_z w (o (to_z w A.bits) (to_z w B.bits));
   num = o A.num B.num;
-  reads = result (on A B o) f;
+  reads = result (on_both A B o) f;
   fit = f;
 }
 
 pub op_need : {w : Width} (o : ℤ → ℤ → ℤ) (A B : Loc w) → SFits w (o A.num B.num)
     → SFits w (o (to_z w A.bits) (to_z w B.bits))
-op_need {w} o A B f = subst (SFits w) (sym (on A B o)) f
+op_need {w} o A B f = subst (SFits w) (sym (on_both A B o)) f
 
 module _ {w : Width} (A B : Loc w) where
   abbrev pub add : SFits w (A.num +ℤ B.num) → Loc w

@@ -1,7 +1,7 @@
 #![tactic(auto)]
 
 ghost use Rattle.std.specs.Prelude.{◌≡◌, ◌+◌, ◌-◌, ◌*◌, ◌<◌, ◌≤◌, ◌^◌, pos, nat_abs, ◌+ℤ◌, ◌-ℤ◌, ◌<ℤ◌};
-ghost use Rattle.charts.specs.Rounding.{edition_known, near_of, rounds_up};
+ghost use Rattle.charts.specs.Rounding.{edition_known_of, near_of, rounds_up_of};
 ghost use Rattle.charts.specs.Division.{division_of};
 ghost use Rattle.charts.specs.Sums.{added};
 ghost use Rattle.charts.specs.Charts.{adjustment_of, alarms_of, applied_of, blank, reset_of};
@@ -29,9 +29,9 @@ pub fn divide(n: i64, d: i64) -> Division
 }
 
 // Whether there is such an edition. It stays a byte, here and below: a caller may tell any, and each has its answer.
-#[tactic(auto, using(std::proofs::lemmas::Bool::Decides::nat_tests), unfolding(crate::specs::Rounding::edition_known))]
+#[tactic(auto, using(std::proofs::lemmas::Bool::Decides::nat_tests), unfolding(crate::specs::Rounding::edition_known_of))]
 pub fn edition_known(edition: u8) -> bool
-    ensures { result ≡ edition_known edition }
+    ensures { result ≡ edition_known_of edition }
 {
     matches!(edition, 1 | 2)
 }
@@ -40,7 +40,7 @@ pub fn edition_known(edition: u8) -> bool
 // rests fall on either side as it comes.
 fn rounds_up(edition: u8, odd: bool, r: u64, d: u64) -> bool
     requires { r < d }
-    ensures { result ≡ rounds_up edition odd r d }
+    ensures { result ≡ rounds_up_of edition odd r d }
 {
     let left = d - r;
     (left < r) | ((left == r) & ((edition != 2) | odd))

@@ -15,7 +15,7 @@ use Rattle.calibration.proofs.RangeLaws.{between_fits}
 use Rattle.calibration.proofs.FitRange.{fitted_ranged}
 use Rattle.calibration.proofs.ResidualLaws.{top_bound, residuals_ranged}
 use Rattle.calibration.proofs.VerdictLaws.{count_above}
-use Rattle.calibration.specs.Calibration.{LineRanged, count_fits, divisor_of, fit_from, fit_of, flat_of, line_fits, residuals_of, slope_of, slope_ranged_of, some_beyond, sums_of, top_of}
+use Rattle.calibration.specs.Calibration.{LineRanged, count_fits_of, divisor_of, fit_from_of, fit_of, flat_of, line_fits_of, residuals_of, slope_of, slope_ranged_of, some_beyond, sums_of, top_of}
 use Rattle.calibration.specs.Outcomes.{Fitted}
 use Rattle.calibration.specs.declared.line.Line.{Line}
 use Rattle.calibration.specs.declared.pairs.Pair.{Pair}
@@ -25,7 +25,7 @@ use Rattle.records.specs.Writing.{calibration_record, annual_record}
 use Rattle.records.proofs.ReadBackLaws.{Stored, calibration_formed, calibration_kind, calibration_minute, calibration_z, calibration_stores, annual_formed, annual_kind, annual_minute, annual_stores}
 use Rattle.records.specs.Record.{Record, kind, minute, minute_limit, formed_of, ranged_of, z_of}
 use Rattle.records.specs.Kinds.{sets}
-use Rattle.records.specs.Table.{Facts, misplaced, untimely, days_fit, pair_of_waiting, calibration_of, annual_of, stores_fit, stores_test, calibration_refusal, annual_refusal, kind_refusal, refusal_in}
+use Rattle.records.specs.Table.{Facts, misplaced_of, untimely_of, days_fit_of, pair_of_waiting, calibration_of, annual_of, stores_fit_of, stores_test_of, calibration_refusal_of, annual_refusal_of, kind_refusal_of, refusal_in}
 use Rattle.records.proofs.TableLaws.{calibration_count}
 use Rattle.records.specs.State.{facts_of}
 use Rattle.records.specs.Soundness.{SettingSound, Sound, count_limit}
@@ -35,7 +35,7 @@ use Rattle.records.specs.declared.state.State.{State}
 use Rattle.file.specs.Calls.{opened}
 use Rattle.file.specs.Answered.{ran_of}
 use Rattle.file.specs.RoomLaws.{fit_size}
-use Rattle.file.specs.Closings.{first_rows, closing_of, closing_refusal, make_of, made_bytes}
+use Rattle.file.specs.Closings.{first_rows_of, closing_of, closing_refusal, make_of, made_bytes}
 use Rattle.file.proofs.ClosingLaws.{first_passed, passed_begun, passed_time, passed_z, calibration_row, annual_row, calibration_bytes, annual_bytes, z_in_range, begun_setting, before_sound, bytes_made, made_passes}
 
 -- ---- the figures that a fit gives
@@ -45,8 +45,8 @@ abbrev TopSmall : Fitted → Type 0
 TopSmall c = nat_abs c.top.0 ≤ 11000000
 
 module _ (edition : ℕ) (q : Requirements) (z : ℤ) (ps : List Pair) (Q : RequirementsRanged q) where
-  line_top : (l : Line) → 0 < length ps → TopSmall (line_fits edition q ps l)
-  unfolding line_fits residuals_of
+  line_top : (l : Line) → 0 < length ps → TopSmall (line_fits_of edition q ps l)
+  unfolding line_fits_of residuals_of
   line_top l h = if_all TopSmall (some_beyond edition q.oxygen l ps) _ _ (λ t. omega arith) standing
     where
       most : Standard
@@ -57,8 +57,8 @@ module _ (edition : ℕ) (q : Requirements) (z : ℤ) (ps : List Pair) (Q : Requ
           let far = (residuals_ranged edition q.oxygen l ps h (not-true (some_beyond edition q.oxygen l ps) (is_true _ t))).most in
           top_bound edition q.limit most far Q.limit
 
-  from_top : 0 < length ps → TopSmall (fit_from edition q z ps (sums_of ps))
-  unfolding fit_from
+  from_top : 0 < length ps → TopSmall (fit_from_of edition q z ps (sums_of ps))
+  unfolding fit_from_of
   from_top h =
       let flat = flat_of edition q ps in
       if_all TopSmall (le_z (divisor_of flat (sums_of ps) z) (pos 0)) _ _ (λ t. omega arith)
@@ -67,8 +67,8 @@ module _ (edition : ℕ) (q : Requirements) (z : ℤ) (ps : List Pair) (Q : Requ
   fit_top : TopSmall (fit_of edition q z ps)
   unfolding fit_of
   fit_top =
-      if_all TopSmall (not (count_fits (length ps))) _ _ (λ t. omega arith)
-      (λ t. from_top (count_above (length ps) (not-false (count_fits (length ps)) (not-true (not (count_fits (length ps))) (is_true _ t)))))
+      if_all TopSmall (not (count_fits_of (length ps))) _ _ (λ t. omega arith)
+      (λ t. from_top (count_above (length ps) (not-false (count_fits_of (length ps)) (not-true (not (count_fits_of (length ps))) (is_true _ t)))))
 
 abbrev Figures : Fitted → Type 0
 Figures c = c.refusal ≡ 0 → LineRanged c.line × TopSmall c
@@ -76,8 +76,8 @@ Figures c = c.refusal ≡ 0 → LineRanged c.line × TopSmall c
 figures : (m : ℕ) (st : State) (z : ℤ) → Sound m st → SettingSound st.setting → ZRanged z → Figures (calibration_of (facts_of st) z)
 unfolding calibration_of facts_of
 figures m st z S Q Z =
-    if_all Figures (not (count_fits (length ws))) _ _ (λ t e. absurd (omega arith))
-    (λ t. if_all Figures (not (days_fit ws)) _ _ (λ u e. absurd (omega arith)) (λ u e. (fitted_ranged st.edition q z ps Q.requirements Z (pairs_ranged ws S.pairs) few e, fit_top st.edition q z ps Q.requirements)))
+    if_all Figures (not (count_fits_of (length ws))) _ _ (λ t e. absurd (omega arith))
+    (λ t. if_all Figures (not (days_fit_of ws)) _ _ (λ u e. absurd (omega arith)) (λ u e. (fitted_ranged st.edition q z ps Q.requirements Z (pairs_ranged ws S.pairs) few e, fit_top st.edition q z ps Q.requirements)))
   where
     ws : List Waiting
     ws = take st.pending st.pairs
@@ -107,13 +107,13 @@ stored m st z S Q Z e =
 
 -- ---- the rows
 
-none_refuses : (f : Facts) (r : Record) → formed_of r ≡ true → misplaced f r ≡ false → untimely f (minute r) ≡ false → ranged_of r ≡ true → kind_refusal f r ≡ 0 → refusal_in f r ≡ 0
+none_refuses : (f : Facts) (r : Record) → formed_of r ≡ true → misplaced_of f r ≡ false → untimely_of f (minute r) ≡ false → ranged_of r ≡ true → kind_refusal_of f r ≡ 0 → refusal_in f r ≡ 0
 unfolding refusal_in
 none_refuses f r a b c d e = rw (a, b, c, d, e)
 
 -- past the first record, a closing is in its place
-placed : (f : Facts) (r : Record) → f.begun ≡ true → sets r ≡ false → misplaced f r ≡ false
-unfolding misplaced
+placed : (f : Facts) (r : Record) → f.begun ≡ true → sets r ≡ false → misplaced_of f r ≡ false
+unfolding misplaced_of
 placed f r b s = if_yes f.begun (sets r) (not (sets r)) b ∙ s
 
 not_one : (r : Record) (k : ℕ) → kind r ≡ k → (k ≡ 1 → ⊥) → sets r ≡ false
@@ -133,32 +133,32 @@ module _ (f : Facts) (r : Record) where
   unfolding ranged_of
   annual_ranged k = rw k
 
-  calibration_kind_passes : kind r ≡ 5 → (z : ℤ) → z_of r ≡ z → (calibration_of f z).refusal ≡ 0 → stores_fit (calibration_of f z) r ≡ true → kind_refusal f r ≡ 0
-  unfolding kind_refusal calibration_refusal
-  calibration_kind_passes k z e n s = rw (k, e) (both_pass (calibration_of f z).refusal (stores_fit (calibration_of f z) r) n s)
+  calibration_kind_passes : kind r ≡ 5 → (z : ℤ) → z_of r ≡ z → (calibration_of f z).refusal ≡ 0 → stores_fit_of (calibration_of f z) r ≡ true → kind_refusal_of f r ≡ 0
+  unfolding kind_refusal_of calibration_refusal_of
+  calibration_kind_passes k z e n s = rw (k, e) (both_pass (calibration_of f z).refusal (stores_fit_of (calibration_of f z) r) n s)
 
-  annual_kind_passes : kind r ≡ 6 → (annual_of f).refusal ≡ 0 → stores_test (annual_of f) (length f.pending) r ≡ true → kind_refusal f r ≡ 0
-  unfolding kind_refusal annual_refusal
-  annual_kind_passes k n s = rw k (both_pass (annual_of f).refusal (stores_test (annual_of f) (length f.pending) r) n s)
+  annual_kind_passes : kind r ≡ 6 → (annual_of f).refusal ≡ 0 → stores_test_of (annual_of f) (length f.pending) r ≡ true → kind_refusal_of f r ≡ 0
+  unfolding kind_refusal_of annual_refusal_of
+  annual_kind_passes k n s = rw k (both_pass (annual_of f).refusal (stores_test_of (annual_of f) (length f.pending) r) n s)
 
 -- a minute in time is no more than the last one there is
-minute_small : (f : Facts) (m : ℕ) → untimely f m ≡ false → m ≤ minute_limit
-unfolding untimely
+minute_small : (f : Facts) (m : ℕ) → untimely_of f m ≡ false → m ≤ minute_limit
+unfolding untimely_of
 minute_small f m h = ltb-false minute_limit m (or_parts (ltb m f.minute) (ltb minute_limit m) h).1
 
 -- a closing that passes the first rows is in place and in time
-closing_passes : (f : Facts) (r : Record) (k told m : ℕ) (z : ℤ) → first_rows f told m z ≡ 0 → kind r ≡ k → (k ≡ 1 → ⊥) → (m < 4294967296 → minute r ≡ m) → formed_of r ≡ true
+closing_passes : (f : Facts) (r : Record) (k told m : ℕ) (z : ℤ) → first_rows_of f told m z ≡ 0 → kind r ≡ k → (k ≡ 1 → ⊥) → (m < 4294967296 → minute r ≡ m) → formed_of r ≡ true
     → ranged_of r ≡ true
-    → kind_refusal f r ≡ 0
+    → kind_refusal_of f r ≡ 0
     → refusal_in f r ≡ 0
 closing_passes f r k told m z h e n i a d g =
     let t = passed_time f told m z h in
-    none_refuses f r a (placed f r (passed_begun f told m z h) (not_one r k e n)) (ap (untimely f) (i (omega (arith, minute_small f m t))) ∙ t) d g
+    none_refuses f r a (placed f r (passed_begun f told m z h) (not_one r k e n)) (ap (untimely_of f) (i (omega (arith, minute_small f m t))) ∙ t) d g
 
 -- ---- the theorem
 
 module _ (m : ℕ) (st : State) (S : Sound m st) (minute : ℕ) (z : ℤ) where
-  accepted_calibration : first_rows (facts_of st) 5 minute z ≡ 0 → (calibration_of (facts_of st) z).refusal ≡ 0
+  accepted_calibration : first_rows_of (facts_of st) 5 minute z ≡ 0 → (calibration_of (facts_of st) z).refusal ≡ 0
       → refusal_in (facts_of st) (calibration_record (calibration_of (facts_of st) z) minute z) ≡ 0
   accepted_calibration h e =
       let f = facts_of st in
@@ -172,7 +172,7 @@ module _ (m : ℕ) (st : State) (S : Sound m st) (minute : ℕ) (z : ℤ) where
       (calibration_ranged f r k (ap z_ranged_of y ∙ is_true _ ((between_answers (neg_ℤ (pos 10000)) (pos 10000) z).back Z)))
       (calibration_kind_passes f r k z y e (calibration_stores c minute z F))
 
-  accepted_annual : (kind : ℕ) → first_rows (facts_of st) kind minute z ≡ 0 → (annual_of (facts_of st)).refusal ≡ 0
+  accepted_annual : (kind : ℕ) → first_rows_of (facts_of st) kind minute z ≡ 0 → (annual_of (facts_of st)).refusal ≡ 0
       → refusal_in (facts_of st) (annual_record (annual_of (facts_of st)) (length (facts_of st).pending) minute) ≡ 0
   accepted_annual kind h e =
       let f = facts_of st in
@@ -190,13 +190,13 @@ module _ (m : ℕ) (st : State) (S : Sound m st) (minute : ℕ) (z : ℤ) where
       f : Facts
       f = facts_of st
 
-      first : first_rows f kind minute z ≡ 0
+      first : first_rows_of f kind minute z ≡ 0
       first = first_passed f kind minute z e
 
       by_kind : (t : Bool) → eqb kind 5 ≡ t → refusal_in f (closing_of f kind minute z) ≡ 0
       by_kind true t =
           let k = eqb-true kind 5 t in
-          let g = subst (λ (n : ℕ). first_rows f n minute z ≡ 0) k first in
+          let g = subst (λ (n : ℕ). first_rows_of f n minute z ≡ 0) k first in
           ap (refusal_in f) (calibration_bytes f kind minute z k) ∙ accepted_calibration g (sym (calibration_row f kind minute z first k) ∙ e)
       by_kind false t =
           let k = eqb-false kind 5 t in

@@ -12,14 +12,14 @@ use Rattle.refusals.specs.declared.Refusal.{Refusal}
 use Rattle.charts.specs.Tests.{holds, if_yes, if_no}
 use Rattle.calibration.specs.Pairs.{ZRanged, between_answers}
 use Rattle.records.specs.Writing.{calibration_record, annual_record}
-use Rattle.records.specs.Table.{Facts, untimely, calibration_of, annual_of}
+use Rattle.records.specs.Table.{Facts, untimely_of, calibration_of, annual_of}
 use Rattle.records.specs.State.{facts_of}
 use Rattle.records.specs.Steps.{Ran}
 use Rattle.records.specs.Soundness.{SettingSound, BegunSound, Sound, Fitting}
 use Rattle.records.proofs.SoundnessLaws.{weaken}
 use Rattle.records.specs.declared.state.State.{State}
 use Rattle.blocks.specs.Blocks.{told_refusal}
-use Rattle.file.specs.Taking.{records, records_fit}
+use Rattle.file.specs.Taking.{records, records_fit_of}
 use Rattle.file.specs.Calls.{opened, ready_of}
 use Rattle.file.specs.RoomLaws.{opened_pairs, opened_ready}
 use Rattle.file.specs.RoomLaws.{ready_fit, within_none, within_ran}
@@ -27,7 +27,7 @@ use Rattle.file.proofs.CallsLaws.{records_length}
 use Rattle.file.specs.Answered.{PlaceOfTwelve, index_of, ran_of}
 use Rattle.file.specs.declared.Refused.{Refused}
 use Rattle.file.proofs.OutcomeLaws.{some_row}
-use Rattle.file.specs.Closings.{Made, first_rows, z_fits, closing_of, closing_refusal, made, made_at, made_by, ran_before, making_refusal, make_of, made_bytes}
+use Rattle.file.specs.Closings.{Made, first_rows_of, z_fits_of, closing_of, closing_refusal, made, made_at, made_by, ran_before, making_refusal, make_of, made_bytes}
 
 -- ---- its rows
 
@@ -36,38 +36,38 @@ module _ (f : Facts) (kind minute : ℕ) (z : ℤ) where
   abbrev figure_rows : ℕ
   figure_rows = if eqb kind 5 then (calibration_of f z).refusal else (annual_of f).refusal
 
-  pub first_refuses : (first_rows f kind minute z ≡ 0 → ⊥) → closing_refusal f kind minute z ≡ first_rows f kind minute z
+  pub first_refuses : (first_rows_of f kind minute z ≡ 0 → ⊥) → closing_refusal f kind minute z ≡ first_rows_of f kind minute z
   unfolding closing_refusal
-  first_refuses h = or_stop (first_rows f kind minute z) figure_rows h
+  first_refuses h = or_stop (first_rows_of f kind minute z) figure_rows h
 
-  pub first_passed : closing_refusal f kind minute z ≡ 0 → first_rows f kind minute z ≡ 0
+  pub first_passed : closing_refusal f kind minute z ≡ 0 → first_rows_of f kind minute z ≡ 0
   unfolding closing_refusal
-  first_passed h = (rows_passed (first_rows f kind minute z) h).0
+  first_passed h = (rows_passed (first_rows_of f kind minute z) h).0
 
-  module _ (h : first_rows f kind minute z ≡ 0) where
-    begun_row : (not f.begun ≡ false) × ((12 when untimely f minute or 13 when not (z_fits kind z)) ≡ 0)
-    unfolding first_rows
+  module _ (h : first_rows_of f kind minute z ≡ 0) where
+    begun_row : (not f.begun ≡ false) × ((12 when untimely_of f minute or 13 when not (z_fits_of kind z)) ≡ 0)
+    unfolding first_rows_of
     begun_row = row_passed 11 (not f.begun) tt h
 
-    time_row : (untimely f minute ≡ false) × ((13 when not (z_fits kind z)) ≡ 0)
-    time_row = row_passed 12 (untimely f minute) tt begun_row.1
+    time_row : (untimely_of f minute ≡ false) × ((13 when not (z_fits_of kind z)) ≡ 0)
+    time_row = row_passed 12 (untimely_of f minute) tt begun_row.1
 
     pub passed_begun : f.begun ≡ true
     passed_begun = not-false f.begun begun_row.0
 
-    pub passed_time : untimely f minute ≡ false
+    pub passed_time : untimely_of f minute ≡ false
     passed_time = time_row.0
 
-    pub passed_z : z_fits kind z ≡ true
-    passed_z = not-false (z_fits kind z) (unfit 13 (not (z_fits kind z)) tt time_row.1)
+    pub passed_z : z_fits_of kind z ≡ true
+    passed_z = not-false (z_fits_of kind z) (unfit 13 (not (z_fits_of kind z)) tt time_row.1)
 
     pub calibration_row : kind ≡ 5 → closing_refusal f kind minute z ≡ (calibration_of f z).refusal
     unfolding closing_refusal
-    calibration_row k = or_next (first_rows f kind minute z) figure_rows h ∙ if_yes (eqb kind 5) _ _ (eq-eqb kind 5 k)
+    calibration_row k = or_next (first_rows_of f kind minute z) figure_rows h ∙ if_yes (eqb kind 5) _ _ (eq-eqb kind 5 k)
 
     pub annual_row : (kind ≡ 5 → ⊥) → closing_refusal f kind minute z ≡ (annual_of f).refusal
     unfolding closing_refusal
-    annual_row k = or_next (first_rows f kind minute z) figure_rows h ∙ if_no (eqb kind 5) _ _ (ne_eqb kind 5 k)
+    annual_row k = or_next (first_rows_of f kind minute z) figure_rows h ∙ if_no (eqb kind 5) _ _ (ne_eqb kind 5 k)
 
   pub calibration_bytes : kind ≡ 5 → closing_of f kind minute z ≡ calibration_record (calibration_of f z) minute z
   unfolding closing_of
@@ -78,8 +78,8 @@ module _ (f : Facts) (kind minute : ℕ) (z : ℤ) where
   annual_bytes k = if_no (eqb kind 5) _ _ (ne_eqb kind 5 k)
 
 -- Z of a calibration is in its range
-pub z_in_range : (kind : ℕ) (z : ℤ) → kind ≡ 5 → z_fits kind z ≡ true → ZRanged z
-unfolding z_fits
+pub z_in_range : (kind : ℕ) (z : ℤ) → kind ≡ 5 → z_fits_of kind z ≡ true → ZRanged z
+unfolding z_fits_of
 z_in_range kind z k h = holds (between_answers (neg_ℤ (pos 10000)) (pos 10000) z) (sym (if_yes (eqb kind 5) _ _ (eq-eqb kind 5 k)) ∙ h)
 
 -- ---- the state that the records before it lead to
@@ -131,11 +131,11 @@ module _ (st : State) (edition : ℕ) (bytes : List ℕ) (kind minute : ℕ) (z 
   size_stops n = row_stops 1 (rw (ne_eqb size 40 n)) (λ q. omega arith)
 
   module _ (s : size ≡ 40) where
-    pub fit_stops : records_fit 0 11 (length bytes) ≡ false → make ≡ made 6 255
+    pub fit_stops : records_fit_of 0 11 (length bytes) ≡ false → make ≡ made 6 255
     unfolding making_refusal
     fit_stops f = row_stops 6 (rw (eq-eqb size 40 s, f)) (λ q. omega arith)
 
-    module _ (f : records_fit 0 11 (length bytes) ≡ true) where
+    module _ (f : records_fit_of 0 11 (length bytes) ≡ true) where
       pub kind_stops : (eqb kind 5 || eqb kind 6) ≡ false → make ≡ made 6 255
       unfolding making_refusal
       kind_stops k = row_stops 6 (rw (eq-eqb size 40 s, f, k)) (λ q. omega arith)
@@ -177,7 +177,7 @@ module _ (st : State) (edition : ℕ) (bytes : List ℕ) (kind minute : ℕ) (z 
 
 -- what it tells that one was made
 pub record MadePasses (st : State) (edition : ℕ) (bytes : List ℕ) (kind minute : ℕ) (z : ℤ) : Type 0 where
-  pub fits : records_fit 0 11 (length bytes) ≡ true
+  pub fits : records_fit_of 0 11 (length bytes) ≡ true
   pub ready : ready_of st ≡ true
   pub told : told_refusal st.edition edition ≡ 0
   pub accepted : (ran_of (opened st edition) bytes).refusal ≡ 0
@@ -189,13 +189,13 @@ unfolding make_of making_refusal ran_before ran_of
 made_passes st edition bytes kind minute z size e =
     let call = let_on 255 (making_refusal st edition bytes kind size) _ e in
     let a = row_passed 1 (not (eqb size 40)) tt call.0 in
-    let b = row_passed 6 (not (records_fit 0 11 (length bytes))) tt a.1 in
+    let b = row_passed 6 (not (records_fit_of 0 11 (length bytes))) tt a.1 in
     let c = row_passed 6 (not (eqb kind 5 || eqb kind 6)) tt b.1 in
     let d = row_passed 7 (not (ready_of st)) tt c.1 in
     let ran = let_on (ran_before st edition bytes).index (ran_before st edition bytes).refusal _ call.1 in
     let own = let_on (length bytes / 40) (closing_refusal (facts_of (ran_before st edition bytes).kept) kind minute z) (made 0 255) ran.1 in
     record {
-      fits = not-false (records_fit 0 11 (length bytes)) b.0;
+      fits = not-false (records_fit_of 0 11 (length bytes)) b.0;
       ready = not-false (ready_of st) d.0;
       told = d.1;
       accepted = ran.0;

@@ -6,12 +6,12 @@ use Rattle.refusals.specs.Rows.{◌when◌, ◌or◌, unless_refused}
 use Rattle.calibration.specs.Pairs.{z_ranged_of}
 use Rattle.records.specs.Record.{Record}
 use Rattle.records.specs.Writing.{calibration_record, annual_record}
-use Rattle.records.specs.Table.{Facts, untimely, calibration_of, annual_of, sameℤ}
+use Rattle.records.specs.Table.{Facts, untimely_of, calibration_of, annual_of, sameℤ}
 use Rattle.records.specs.State.{facts_of}
 use Rattle.records.specs.Steps.{Ran, ran_from, state_rules}
 use Rattle.records.specs.declared.state.State.{State}
 use Rattle.blocks.specs.Blocks.{told_refusal}
-use Rattle.file.specs.Taking.{records, records_fit}
+use Rattle.file.specs.Taking.{records, records_fit_of}
 use Rattle.file.specs.Calls.{ready_of, opened}
 use Rattle.file.specs.Answered.{row_of, place_of}
 use Rattle.file.specs.declared.Refused.{Refused}
@@ -27,18 +27,18 @@ closing_of f kind minute z =
 -- ---- its rows: 11, 12, 13, then 19 to 24
 
 -- Z in its range for a calibration, 0 for an annual test
-unfoldable pub z_fits : ℕ → ℤ → Bool
-z_fits kind z = if eqb kind 5 then z_ranged_of z else sameℤ z (pos 0)
+unfoldable pub z_fits_of : ℕ → ℤ → Bool
+z_fits_of kind z = if eqb kind 5 then z_ranged_of z else sameℤ z (pos 0)
 
-unfoldable pub first_rows : Facts → ℕ → ℕ → ℤ → ℕ
-first_rows f kind minute z =
+unfoldable pub first_rows_of : Facts → ℕ → ℕ → ℤ → ℕ
+first_rows_of f kind minute z =
     11 when not f.begun
-    or 12 when untimely f minute
-    or 13 when not (z_fits kind z)
+    or 12 when untimely_of f minute
+    or 13 when not (z_fits_of kind z)
 
 unfoldable pub closing_refusal : Facts → ℕ → ℕ → ℤ → ℕ
 closing_refusal f kind minute z =
-    first_rows f kind minute z
+    first_rows_of f kind minute z
     or (if eqb kind 5 then (calibration_of f z).refusal else (annual_of f).refusal)
 
 -- ---- the call
@@ -68,7 +68,7 @@ ran_before st edition bytes = ran_from state_rules 0 (opened st edition) (record
 unfoldable pub making_refusal : State → ℕ → List ℕ → ℕ → ℕ → ℕ
 making_refusal st edition bytes kind size =
     1 when not (eqb size 40)
-    or 6 when not (records_fit 0 11 (length bytes))
+    or 6 when not (records_fit_of 0 11 (length bytes))
     or 6 when not (eqb kind 5 || eqb kind 6)
     or 7 when not (ready_of st)
     or told_refusal st.edition edition

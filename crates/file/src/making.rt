@@ -4,7 +4,7 @@ ghost use Rattle.refusals.specs.Rows.{outcome_of};
 ghost use Rattle.records.specs.Soundness.{Fitting};
 ghost use Rattle.records.specs.State.{facts_of};
 ghost use Rattle.file.specs.Answered.{PlaceOfTwelve};
-ghost use Rattle.file.specs.Closings.{closing_of, closing_refusal, first_rows, made_by, made_bytes, make_of, z_fits};
+ghost use Rattle.file.specs.Closings.{closing_of, closing_refusal, first_rows_of, made_by, made_bytes, make_of, z_fits_of};
 
 use crate::{Refused, listed, turning};
 use records::{State, writing};
@@ -29,9 +29,9 @@ fn closes(kind: u8) -> bool
 }
 
 // Z in its range for a calibration, 0 for an annual test.
-#[tactic(auto, using(records::proofs::SignedLaws::zero_same), unfolding(crate::specs::Closings::z_fits))]
+#[tactic(auto, using(records::proofs::SignedLaws::zero_same), unfolding(crate::specs::Closings::z_fits_of))]
 fn z_fits(kind: u8, z: i32) -> bool
-    ensures { result ≡ z_fits kind z }
+    ensures { result ≡ z_fits_of kind z }
 {
     if kind == 5 {
         return calibration::z_ranged(z);
@@ -40,9 +40,9 @@ fn z_fits(kind: u8, z: i32) -> bool
 }
 
 // Rows 11, 12 and 13.
-#[tactic(auto, unfolding(crate::specs::Closings::first_rows, records::specs::State::facts_of))]
+#[tactic(auto, unfolding(crate::specs::Closings::first_rows_of, records::specs::State::facts_of))]
 fn first_rows(st: State, closing: Closing) -> Result<(), Refusal>
-    ensures { outcome_of result ≡ first_rows (facts_of st) closing.kind closing.minute closing.z }
+    ensures { outcome_of result ≡ first_rows_of (facts_of st) closing.kind closing.minute closing.z }
 {
     if !st.begun {
         return Err(Refusal::Place);

@@ -1,6 +1,6 @@
 // The lines that the reader prints.
 ghost use Rattle.std.specs.Prelude.{◌≡◌};
-ghost use Rattle.reading.specs.Lines.{yes_or_no};
+ghost use Rattle.reading.specs.Lines.{yes_or_no_of};
 
 use file::Report;
 use refusals::Refusal;
@@ -26,16 +26,16 @@ pub enum Line {
 
 // By hand: a bool prints true and false.
 fn yes_or_no(answer: bool) -> &'static str
-    ensures { result.now ≡ yes_or_no answer }
+    ensures { result.now ≡ yes_or_no_of answer }
 {
     if answer { "yes" } else { "no" }
 }
 
 impl fmt::Display for Line {
     ghost use Rattle.std.specs.Prelude.{Some};
-    ghost use Rattle.reading.specs.Lines.{text_of};
+    ghost use Rattle.reading.specs.Lines.{line_text};
 
-    ghost output = { λ line. Some (text_of line) };
+    ghost output = { λ line. Some (line_text line) };
 
     fn fmt<W: fmt::Write>(&self, f: &mut fmt::Formatter<W>) -> fmt::Result {
         match *self {

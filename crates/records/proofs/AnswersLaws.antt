@@ -12,7 +12,7 @@ use Rattle.records.specs.Record.{difference_of}
 use Rattle.records.specs.History.{History, on, last_minute, setting_in, started_in, readings_since, differences_in, function_in, first_call, AlarmStands, minute_of, Recent, Usable}
 use Rattle.records.specs.Summary.{reading_of, chart_in, demand_of, Place, summary_of}
 use Rattle.records.proofs.SummaryLaws.{differences_of}
-use Rattle.records.specs.Answers.{alarms_at, silent, young_of, recent_of, usable_of}
+use Rattle.records.specs.Answers.{alarms_at, silent_of, young_of, recent_of, usable_of}
 
 -- the chart of a history shows an alarm exactly if the history has it
 chart_answers : (c : Point) (a : Alarm) (h : History) → Answers (alarm_of a (alarms_of (chart_in c h) (deviation_of c (setting_in h)))) (AlarmStands c a h)
@@ -35,7 +35,7 @@ unfolding alarms_at summary_of
 alarm_says at_zero a p h = chart_answers at_zero a h
 alarm_says at_span a p h = chart_answers at_span a h
 
-silent_says : (c : Point) (p : Place) (h : History) → Answers (silent (alarms_at c (summary_of p h))) ((a : Alarm) → ¬ AlarmStands c a h)
+silent_says : (c : Point) (p : Place) (h : History) → Answers (silent_of (alarms_at c (summary_of p h))) ((a : Alarm) → ¬ AlarmStands c a h)
 silent_says c p h =
     answers_as
     (answers_and (answers_and (answers_not (alarm_says c rising p h)) (answers_not (alarm_says c falling p h))) (answers_not (alarm_says c precision p h)))

@@ -11,8 +11,8 @@ use Rattle.std.proofs.Math.Facts.{eqb_yes, eqb_no}
 use Rattle.charts.specs.ChartSoundness.{ChartSound}
 use Rattle.charts.specs.Tests.{if_all}
 use Rattle.records.specs.Record.{Record, kind, mark, minute, function_of, setting_of, waiting_of}
-use Rattle.records.specs.Kinds.{Point, at_zero, at_span, point_of, reads, resets, sets, is_pair, calibrates, is_passed, fails, empties, counts, no_values, raises_call, Demand}
-use Rattle.records.specs.Table.{reading_refusal}
+use Rattle.records.specs.Kinds.{Point, at_zero, at_span, point_of, reads, resets, sets, is_pair, calibrates, is_passed, fails, empties, counts, no_values, raises_call_of, Demand}
+use Rattle.records.specs.Table.{reading_refusal_of}
 use Rattle.records.proofs.TableLaws.{zero_open, span_open}
 use Rattle.records.specs.State.{chart_of, facts_of, chart_after, turns_from, judged_at, running_at, raised_of, applied_to}
 use Rattle.records.specs.StateParts.{with_reading, with_reset, with_pair, emptied, with_failure, with_function, with_calibration, with_period, with_annual, with_value, judged_of}
@@ -71,7 +71,7 @@ module _ (st : State) (r : Record) where
     where
       by_mark : (b : Bool) → eqb (mark r) 1 ≡ b → with_calibration judged r ≡ applied_to st r
       by_mark true e = rw (k, e)
-      by_mark false e = rw (k, e, raised_again (raises_call (judged_at st (minute r)) st.over) st.demand (minute r))
+      by_mark false e = rw (k, e, raised_again (raises_call_of (judged_at st (minute r)) st.over) st.demand (minute r))
 
   pub applied_annual : kind r ≡ 6 → with_annual judged r ≡ applied_to st r
   unfolding judged_of applied_to chart_after sets reads resets is_pair empties calibrates is_passed fails counts with_annual with_failure
@@ -79,7 +79,7 @@ module _ (st : State) (r : Record) where
     where
       by_mark : (b : Bool) → eqb (mark r) 3 ≡ b → with_annual judged r ≡ applied_to st r
       by_mark true e = rw (k, e)
-      by_mark false e = rw (k, e, raised_again (raises_call (judged_at st (minute r)) st.over) st.demand (minute r))
+      by_mark false e = rw (k, e, raised_again (raises_call_of (judged_at st (minute r)) st.over) st.demand (minute r))
 
   pub applied_value : kind r ≡ 7 → with_value judged r ≡ applied_to st r
   unfolding judged_of applied_to chart_after sets reads resets is_pair empties calibrates is_passed fails counts with_value
@@ -97,7 +97,7 @@ module _ (st : State) (r : Record) where
 
 module _ (st : State) (r : Record) where
   -- a reading that the table accepts finds room in its chart
-  pub chart_room : reading_refusal (facts_of st) r ≡ 0 → (chart_of (point_of (mark r)) st).readings < 100000
+  pub chart_room : reading_refusal_of (facts_of st) r ≡ 0 → (chart_of (point_of (mark r)) st).readings < 100000
   unfolding facts_of
   chart_room e =
       if_all (λ (c : Point). (chart_of c st).readings < 100000) (eqb (mark r) 0) at_zero at_span

@@ -8,10 +8,10 @@ use Rattle.std.specs.Int.Signed.{mag, ≤ℤ_refl}
 use borrow.Author.Tests.{eq-eqb, lt-ltb, le-ltb, le-leb}
 use Rattle.charts.specs.Integers.{le_le_z}
 use Rattle.calibration.specs.Outcomes.{Fitted, Tested}
-use Rattle.records.specs.Bytes.{byte_at, le16, le32, all_zero, bytes16, bytes32}
+use Rattle.records.specs.Bytes.{byte_at, le16, le32, all_zero_of, bytes16, bytes32}
 use Rattle.records.specs.BytesLaws.{replicate_zero}
-use Rattle.records.specs.Record.{kind, mark, minute, signed32, signed64, field, long_field, formed_of, plain_of, mark_limit, fields_end, z_of}
-use Rattle.records.specs.Table.{pass_mark, test_mark, sameℤ, stores_fit, stores_test}
+use Rattle.records.specs.Record.{kind, mark, minute, signed32, signed64, field_of, long_field_of, formed_of, plain_of, mark_limit, fields_end, z_of}
+use Rattle.records.specs.Table.{pass_mark_of, test_mark_of, sameℤ, stores_fit_of, stores_test_of}
 use Rattle.records.specs.Writing.{unsigned32, unsigned64, bytes64, field_bytes, long_bytes, head_of, record_of, calibration_record, annual_record}
 use Rattle.records.proofs.WritingLaws.{parts_length}
 
@@ -83,7 +83,7 @@ module _ (k m t : ℕ) where
         spread : (a b c d : List ℕ) → a ++ b ++ c ++ d ≡ a ++ (b ++ (c ++ d))
         spread a b c d = simp append_assoc
 
-    -- a mark of its kind, and no field past the end of that kind's
+    -- a mark of its kind, and no field_of past the end of that kind's
     pub formed_back : (leb 1 k && leb k 8) ≡ true → m ≤ mark_limit k → 8 + length fields ≤ fields_end k → formed_of (record_of k m t fields) ≡ true
     unfolding formed_of plain_of kind mark record_of
     formed_back h a b = rw (h, le-leb m (mark_limit k) a, stray) refl
@@ -100,10 +100,10 @@ module _ (k m t : ℕ) where
         end : fields_end k ≡ length parts + past
         end = omega (arith, parts_length k m t fields)
 
-        stray : all_zero (drop (fields_end k) (parts ++ zeros)) ≡ true
+        stray : all_zero_of (drop (fields_end k) (parts ++ zeros)) ≡ true
         stray = rw (end, drop-append-add parts zeros past, drop-replicate {X = ℕ} past (32 - length fields) 0) (replicate_zero (32 - length fields - past))
 
-  -- a field, between others
+  -- a field_of, between others
   module _ (front rest : List ℕ) (at : ℕ) (e : at ≡ 8 + length front) where
     number_in : (new : List ℕ) (n i : ℕ) → i ≡ at + n
         → le32 (record_of k m t (front ++ new ++ rest)) i ≡ le32 (new ++ (rest ++ replicate (32 - length (front ++ new ++ rest)) 0)) n
@@ -115,18 +115,18 @@ module _ (k m t : ℕ) where
         spread : (a b c d z : List ℕ) → a ++ (b ++ c ++ d) ++ z ≡ (a ++ b) ++ (c ++ (d ++ z))
         spread a b c d z = simp append_assoc
 
-    pub count_back : (n : ℕ) → n < 2147483648 → field (record_of k m t (front ++ bytes32 n ++ rest)) at ≡ pos n
-    unfolding field signed32
+    pub count_back : (n : ℕ) → n < 2147483648 → field_of (record_of k m t (front ++ bytes32 n ++ rest)) at ≡ pos n
+    unfolding field_of signed32
     count_back n h = ap signed32 (number_in (bytes32 n) 0 at (omega arith) ∙ le32_of _ n (omega arith)) ∙ rw (lt-ltb n 2147483648 h)
 
-    pub field_back : (z : ℤ) → SFits w32 z → field (record_of k m t (front ++ field_bytes z ++ rest)) at ≡ z
-    unfolding field
+    pub field_back : (z : ℤ) → SFits w32 z → field_of (record_of k m t (front ++ field_bytes z ++ rest)) at ≡ z
+    unfolding field_of
     field_back z f =
         ap signed32 (number_in (field_bytes z) 0 at (omega arith) ∙ le32_of _ (unsigned32 z) (unsigned32_lt z (omega (arith, f.sfits))))
         ∙ signed32_back z (omega (arith, f.sfits))
 
-    pub long_field_back : (z : ℤ) → SFits w64 z → long_field (record_of k m t (front ++ long_bytes z ++ rest)) at ≡ z
-    unfolding long_field
+    pub long_field_back : (z : ℤ) → SFits w64 z → long_field_of (record_of k m t (front ++ long_bytes z ++ rest)) at ≡ z
+    unfolding long_field_of
     long_field_back z f =
         let low = number_in (long_bytes z) 0 at (omega arith) in
         let high = number_in (long_bytes z) 4 (at + 4) refl in
@@ -147,7 +147,7 @@ same_refl z = rw (le_le_z (≤ℤ_refl z))
 module _ (c : Fitted) (m : ℕ) (z : ℤ) where
   pub calibration_formed : formed_of (calibration_record c m z) ≡ true
   unfolding calibration_record mark_limit fields_end bytes64 bytes32 bytes16
-  calibration_formed = formed_back 5 (pass_mark c) m _ refl (by_mark c.passed) (omega arith)
+  calibration_formed = formed_back 5 (pass_mark_of c) m _ refl (by_mark c.passed) (omega arith)
     where
       by_mark : (b : Bool) → (if b then 1 else 0) ≤ 1
       by_mark true = omega arith
@@ -155,24 +155,24 @@ module _ (c : Fitted) (m : ℕ) (z : ℤ) where
 
   pub calibration_kind : kind (calibration_record c m z) ≡ 5
   unfolding calibration_record
-  calibration_kind = kind_back 5 (pass_mark c) m _
+  calibration_kind = kind_back 5 (pass_mark_of c) m _
 
   pub calibration_minute : m < 4294967296 → minute (calibration_record c m z) ≡ m
   unfolding calibration_record
-  calibration_minute = minute_back 5 (pass_mark c) m _
+  calibration_minute = minute_back 5 (pass_mark_of c) m _
 
   pub calibration_z : SFits w32 z → z_of (calibration_record c m z) ≡ z
   unfolding z_of calibration_record bytes64 bytes32 bytes16
-  calibration_z = field_back 5 (pass_mark c) m [] _ 8 refl z
+  calibration_z = field_back 5 (pass_mark_of c) m [] _ 8 refl z
 
-  pub calibration_stores : Stored c → stores_fit c (calibration_record c m z) ≡ true
-  unfolding stores_fit calibration_record bytes64 bytes32 bytes16
+  pub calibration_stores : Stored c → stores_fit_of c (calibration_record c m z) ≡ true
+  unfolding stores_fit_of calibration_record bytes64 bytes32 bytes16
   calibration_stores S =
       let Z = field_bytes z in
       let slope = field_bytes c.line.slope in
       let intercept = long_bytes c.line.intercept in
       let top = field_bytes c.top.0 in
-      let k = pass_mark c in
+      let k = pass_mark_of c in
       rw (
         mark_back 5 k m (Z ++ slope ++ intercept ++ top ++ bytes32 c.count),
         field_back 5 k m Z (intercept ++ top ++ bytes32 c.count) 12 refl c.line.slope S.slope,
@@ -189,7 +189,7 @@ module _ (c : Fitted) (m : ℕ) (z : ℤ) where
 module _ (t : Tested) (n m : ℕ) where
   pub annual_formed : formed_of (annual_record t n m) ≡ true
   unfolding annual_record mark_limit fields_end bytes32 bytes16
-  annual_formed = formed_back 6 (test_mark t) m _ refl (by_marks t.variability t.function) (omega arith)
+  annual_formed = formed_back 6 (test_mark_of t) m _ refl (by_marks t.variability t.function) (omega arith)
     where
       by_marks : (a b : Bool) → (if a then 1 else 0) + (if b then 2 else 0) ≤ 3
       by_marks true true = omega arith
@@ -199,13 +199,13 @@ module _ (t : Tested) (n m : ℕ) where
 
   pub annual_kind : kind (annual_record t n m) ≡ 6
   unfolding annual_record
-  annual_kind = kind_back 6 (test_mark t) m _
+  annual_kind = kind_back 6 (test_mark_of t) m _
 
   pub annual_minute : m < 4294967296 → minute (annual_record t n m) ≡ m
   unfolding annual_record
-  annual_minute = minute_back 6 (test_mark t) m _
+  annual_minute = minute_back 6 (test_mark_of t) m _
 
-  pub annual_stores : n ≤ 30 → stores_test t n (annual_record t n m) ≡ true
-  unfolding stores_test annual_record bytes32 bytes16
+  pub annual_stores : n ≤ 30 → stores_test_of t n (annual_record t n m) ≡ true
+  unfolding stores_test_of annual_record bytes32 bytes16
   annual_stores h =
-      rw (mark_back 6 (test_mark t) m (bytes32 n), count_back 6 (test_mark t) m [] [] 8 refl n (omega arith), eq-eqb (test_mark t) (test_mark t) refl, same_refl (pos n))
+      rw (mark_back 6 (test_mark_of t) m (bytes32 n), count_back 6 (test_mark_of t) m [] [] 8 refl n (omega arith), eq-eqb (test_mark_of t) (test_mark_of t) refl, same_refl (pos n))

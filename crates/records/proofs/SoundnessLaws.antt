@@ -12,10 +12,10 @@ use Rattle.calibration.specs.Pairs.{AllRanged}
 use Rattle.calibration.specs.Calibration.{LineRanged}
 use Rattle.calibration.proofs.FitRange.{fitted_ranged}
 use Rattle.calibration.proofs.RangeLaws.{between_abs}
-use Rattle.records.specs.Record.{Record, kind, mark, minute, minute_limit, setting_ranged, setting_of, difference_of, waiting_of, function_of, z_of}
+use Rattle.records.specs.Record.{Record, kind, mark, minute, minute_limit, setting_ranged_of, setting_of, difference_of, waiting_of, function_of, z_of}
 use Rattle.records.specs.RecordLaws.{WaitingFields, setting_fields, setting_ranged_lem, reading_fields, reading_ranged_lem, waiting_fields, waiting_ranged_lem, z_field, z_ranged}
-use Rattle.records.specs.Kinds.{Point, at_zero, at_span, number, deviation_of, reads, resets, sets, is_pair, empties, calibrates, comes_into_force, starts_period, counts, setting_after, calibration_after, no_values, one_more, exceeds, outside_by, line_of}
-use Rattle.records.specs.Table.{misplaced, pair_of_waiting, reading_refusal, refusal_in}
+use Rattle.records.specs.Kinds.{Point, at_zero, at_span, point_mark, deviation_of, reads, resets, sets, is_pair, empties, calibrates, comes_into_force, starts_period, counts, setting_after, calibration_after, no_values, one_more, exceeds_of, outside_by, line_of}
+use Rattle.records.specs.Table.{misplaced_of, pair_of_waiting, reading_refusal_of, refusal_in}
 use Rattle.records.proofs.TableLaws.{Accepted, accepted, reading_passed, zero_open, span_open, pair_passed, pair_passes, calibration_passed, calibration_passes, stored_line}
 use Rattle.records.specs.State.{chart_of, no_pairs, initial_of, facts_of, chart_after, turns_from, judged_at, running_at, applied_to}
 use Rattle.records.specs.History.{pending_in, function_in, tally_in, weeks_over}
@@ -87,15 +87,15 @@ chart_sound edition c s r k S fits =
 
 -- ---- the setting
 
-setting_sound : (r : Record) → setting_ranged r ≡ true → SettingSound (setting_of r)
+setting_sound : (r : Record) → setting_ranged_of r ≡ true → SettingSound (setting_of r)
 unfolding setting_of
 setting_sound r h =
     let F = setting_fields r h in
     record { requirements = F.requirements; zero = between_abs F.zero; span = between_abs F.span; response = between_abs F.response }
 
 -- a record that is no setting finds one
-pub setting_known : (st : State) (r : Record) → misplaced (facts_of st) r ≡ false → T (not (sets r)) → BegunSound st.begun st.setting → SettingSound st.setting
-unfolding misplaced facts_of
+pub setting_known : (st : State) (r : Record) → misplaced_of (facts_of st) r ≡ false → T (not (sets r)) → BegunSound st.begun st.setting → SettingSound st.setting
+unfolding misplaced_of facts_of
 setting_known st r p n S = by_tests st.begun (sets r) p n S
   where
     by_tests : (b t : Bool) → (if b then t else not t) ≡ false → T (not t) → BegunSound b st.setting → SettingSound st.setting
@@ -154,11 +154,11 @@ module _ (st : State) (r : Record) (A : Accepted (facts_of st) r) where
   reading_fits : (c : Point) → T (reads c r) → ((chart_of c st).readings < 100000) × DifferenceRanged (difference_of r)
   unfolding reads facts_of
   reading_fits c t =
-      let p = and_yes (eqb (kind r) 2) (eqb (mark r) (number c)) t in
+      let p = and_yes (eqb (kind r) 2) (eqb (mark r) (point_mark c)) t in
       let k = eqb_yes p.0 in
       (room c (reading_passed (facts_of st) r A k) (eqb_yes p.1), (reading_fields r (reading_ranged_lem r A.ranged k)).difference)
     where
-      room : (c : Point) → reading_refusal (facts_of st) r ≡ 0 → mark r ≡ number c → (chart_of c st).readings < 100000
+      room : (c : Point) → reading_refusal_of (facts_of st) r ≡ 0 → mark r ≡ point_mark c → (chart_of c st).readings < 100000
       room at_zero e m = (zero_open (facts_of st) r e m).room
       room at_span e m = (span_open (facts_of st) r e (λ z. omega arith)).room
 
@@ -210,5 +210,5 @@ applied_sound m st r h S e =
       calibration = calibration_sound m st r S A;
       total = w.0;
       outside = w.1;
-      over = over_at_most (starts_period r) (exceeds 5 (judged_at st (minute r))) st.over m S.over;
+      over = over_at_most (starts_period r) (exceeds_of 5 (judged_at st (minute r))) st.over m S.over;
     }

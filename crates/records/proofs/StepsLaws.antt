@@ -39,11 +39,11 @@ summary_sound p (x ∷ h) t =
 -- ---- the records of a block
 
 -- the end of a list of records with the summary for the history
-abbrev pub summed : Place → Ran History → Ran State
-summed p x = record { kept = summary_of p x.kept; refusal = x.refusal; index = x.index }
+abbrev pub summarised : Place → Ran History → Ran State
+summarised p x = record { kept = summary_of p x.kept; refusal = x.refusal; index = x.index }
 
 pub ran_alike : (p : Place) (place : ℕ) (h : History) (rs : List Record) → Taken h
-    → ran_from state_rules place (summary_of p h) rs ≡ summed p (ran_from (history_rules p.edition) place h rs)
+    → ran_from state_rules place (summary_of p h) rs ≡ summarised p (ran_from (history_rules p.edition) place h rs)
 unfolding ran_from history_rules state_rules
 ran_alike p place h [] t = refl
 ran_alike p place h (r ∷ rs) t =
@@ -56,9 +56,9 @@ ran_alike p place h (r ∷ rs) t =
     A : Ran History
     A = ran_from (history_rules p.edition) (place + 1) (x ∷ h) rs
 
-    go : (b : Bool) → (T b → refusal_of h x ≡ 0) → (refusal_of h x ≡ 0 → ran_from state_rules (place + 1) (summary_of p (x ∷ h)) rs ≡ summed p A)
+    go : (b : Bool) → (T b → refusal_of h x ≡ 0) → (refusal_of h x ≡ 0 → ran_from state_rules (place + 1) (summary_of p (x ∷ h)) rs ≡ summarised p A)
         → (if b then ran_from state_rules (place + 1) (applied_to (summary_of p h) r) rs else record { kept = summary_of p h; refusal = refusal_of h x; index = place })
-        ≡ summed p (if b then A else record { kept = h; refusal = refusal_of h x; index = place })
+        ≡ summarised p (if b then A else record { kept = h; refusal = refusal_of h x; index = place })
     go true f rest = rw (summary_after p h t r (f tt)) (rest (f tt))
     go false f rest = refl
 

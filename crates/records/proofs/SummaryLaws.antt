@@ -13,8 +13,8 @@ use Rattle.charts.specs.Readings.{Reading, differences, after_readings}
 use Rattle.charts.proofs.ChartLaws.{charted}
 use Rattle.records.specs.Lists.{those_since}
 use Rattle.records.specs.Record.{Record, kind, mark, minute, setting_of, difference_of, waiting_of}
-use Rattle.records.specs.Kinds.{Point, at_zero, at_span, number, reads, resets, sets, is_pair, fails, empties, clears_calls, deviation_of, Demand}
-use Rattle.records.specs.Table.{Facts, misplaced, reading_refusal, refusal_in}
+use Rattle.records.specs.Kinds.{Point, at_zero, at_span, point_mark, reads, resets, sets, is_pair, fails, empties, clears_calls, deviation_of, Demand}
+use Rattle.records.specs.Table.{Facts, misplaced_of, reading_refusal_of, refusal_in}
 use Rattle.records.proofs.TableLaws.{Accepted, accepted, reading_passed, pair_passed, zero_open, span_open, pair_passes}
 use Rattle.records.specs.History.{Entry, History, on, begun_in, last_minute, setting_in, started_in, readings_since, differences_in, pending_in, function_in, tally_in, judged_on, weeks_over, week_calls, calls_in, oldest, first_call, facts_in, refusal_of}
 use Rattle.records.specs.State.{no_pair, no_pairs, initial_of, facts_of, chart_after, judged_at, running_at, raised_of, applied_to}
@@ -41,21 +41,21 @@ module _ (h : History) (x : Entry) (e : refusal_of h x ≡ 0) where
 
   -- a setting comes first, and only first
   pub set_first : begun_in h ≡ true → sets r ≡ false
-  unfolding misplaced facts_in
+  unfolding misplaced_of facts_in
   set_first b = sym (if_yes (begun_in h) (sets r) (not (sets r)) b) ∙ told.placed
 
   pub first_sets : begun_in h ≡ false → sets r ≡ true
-  unfolding misplaced facts_in
+  unfolding misplaced_of facts_in
   first_sets b = not-false (sets r) (sym (if_no (begun_in h) (sets r) (not (sets r)) b) ∙ told.placed)
 
   -- a reading is of a started chart
   pub read_started : (c : Point) → reads c r ≡ true → started_in c h ≡ true
   unfolding reads facts_in
   read_started c b =
-      let p = and_both (eqb (kind r) 2) (eqb (mark r) (number c)) b in
-      by c (reading_passed f r told (eqb-true (kind r) 2 p.0)) (eqb-true (mark r) (number c) p.1)
+      let p = and_both (eqb (kind r) 2) (eqb (mark r) (point_mark c)) b in
+      by c (reading_passed f r told (eqb-true (kind r) 2 p.0)) (eqb-true (mark r) (point_mark c) p.1)
     where
-      by : (c : Point) → reading_refusal f r ≡ 0 → mark r ≡ number c → started_in c h ≡ true
+      by : (c : Point) → reading_refusal_of f r ≡ 0 → mark r ≡ point_mark c → started_in c h ≡ true
       by at_zero e m = (zero_open f r e m).started
       by at_span e m = (span_open f r e (λ z. omega arith)).started
 
@@ -125,11 +125,11 @@ other_kind k a b c e n = rw (eqb-true k a e, n)
 
 unread : (c : Point) (r : Record) → sets r ≡ true → reads c r ≡ false
 unfolding sets reads
-unread c r s = other_kind (kind r) 1 2 (eqb (mark r) (number c)) s refl
+unread c r s = other_kind (kind r) 1 2 (eqb (mark r) (point_mark c)) s refl
 
 unreset : (c : Point) (r : Record) → sets r ≡ true → resets c r ≡ false
 unfolding sets resets
-unreset c r s = other_kind (kind r) 1 3 (eqb (mark r) (number c)) s refl
+unreset c r s = other_kind (kind r) 1 3 (eqb (mark r) (point_mark c)) s refl
 
 chart_step : (c : Point) (h : History) (r : Entry) → refusal_of h r ≡ 0 → chart_after r.edition c (setting_in h) r.bytes (chart_in c h) ≡ chart_in c (r ∷ h)
 unfolding chart_after chart_in after_readings reset_of

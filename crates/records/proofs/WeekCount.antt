@@ -2,7 +2,7 @@
 -- minutes never fall, as those of accepted records never do, both readings say the same.
 use Rattle.std.specs.Prelude.{◌≡◌, refl, Bool, true, false, not, ◌&&◌, ◌||◌, [], ◌∷◌, ℕ, zero, suc, ◌<◌, ◌≤◌, eqb, ltb, T, if◌then◌else◌}
 use Rattle.std.proofs.Common.{sym, ap, ◌∙◌, arith, ltb→lt, nltb→le, eqb→eq}
-use Rattle.records.specs.Kinds.{starts_period, counts, no_values, one_more, exceeds, raises_call}
+use Rattle.records.specs.Kinds.{starts_period, counts, no_values, one_more, exceeds_of, raises_call_of}
 use Rattle.records.specs.History.{Entry, History, own_week, last_week, outside_when, tally_in, turns, judged_on, weeks_over, week_calls}
 use Rattle.records.specs.Summary.{Taken}
 use Rattle.records.specs.WeekLaws.{Ordered, none_later}
@@ -10,7 +10,7 @@ use Rattle.records.proofs.SummaryLaws.{ordered}
 
 -- week w of the period is over a number of percent
 abbrev pub week_exceeds : ℕ → History → ℕ → Bool
-week_exceeds percent h w = exceeds percent (tally_in w h)
+week_exceeds percent h w = exceeds_of percent (tally_in w h)
 
 -- how many weeks before week n the test p holds of
 abbrev pub weeks_below : (ℕ → Bool) → ℕ → ℕ
@@ -55,7 +55,7 @@ exceeds_other : (r : Entry) (h : History) (w : ℕ) → w < own_week r → week_
 unfolding no_values
 exceeds_other r h w l = rw (other_week r h w l) (go (starts_period r.bytes))
   where
-    go : (b : Bool) → exceeds 5 (if b then no_values else tally_in w h) ≡ (if b then false else exceeds 5 (tally_in w h))
+    go : (b : Bool) → exceeds_of 5 (if b then no_values else tally_in w h) ≡ (if b then false else exceeds_of 5 (tally_in w h))
     go true = refl
     go false = refl
 
@@ -90,11 +90,11 @@ weeks_step r h o = go (starts_period r.bytes) (exceeds_other r h)
 
 -- ---- the two readings are one
 
-judged_exceeds : (percent : ℕ) → exceeds percent no_values ≡ false → (h : History) (r : Entry) → exceeds percent (judged_on h r) ≡ (turns h r && week_exceeds percent h (last_week h))
+judged_exceeds : (percent : ℕ) → exceeds_of percent no_values ≡ false → (h : History) (r : Entry) → exceeds_of percent (judged_on h r) ≡ (turns h r && week_exceeds percent h (last_week h))
 unfolding judged_on
 judged_exceeds percent none h r = go (turns h r)
   where
-    go : (b : Bool) → exceeds percent (if b then tally_in (last_week h) h else no_values) ≡ (b && week_exceeds percent h (last_week h))
+    go : (b : Bool) → exceeds_of percent (if b then tally_in (last_week h) h else no_values) ≡ (b && week_exceeds percent h (last_week h))
     go true = refl
     go false = none
 
@@ -108,7 +108,7 @@ abbrev pub calls_counted : History → Entry → Bool
 calls_counted h r = turns h r && (week_exceeds 40 h (last_week h) || week_exceeds 5 h (last_week h) && eqb (weeks_counted h) 5)
 
 pub same_calls : (h : History) (r : Entry) → Ordered h → week_calls h r ≡ calls_counted h r
-unfolding week_calls raises_call no_values
+unfolding week_calls raises_call_of no_values
 same_calls h r o = rw (judged_exceeds 40 refl h r, judged_exceeds 5 refl h r, same_weeks h o) (go (turns h r))
   where
     a : Bool

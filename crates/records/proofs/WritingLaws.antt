@@ -8,7 +8,7 @@ use Rattle.records.specs.Bytes.{bytes16, bytes32, written}
 use Rattle.records.specs.BytesLaws.{written_more, zeros_written, bytes32_length}
 use Rattle.records.specs.LittleEndian.{to_le_bytes_32, to_le_bytes_64}
 use Rattle.records.specs.Record.{minute}
-use Rattle.records.specs.Table.{pass_mark, test_mark}
+use Rattle.records.specs.Table.{pass_mark_of, test_mark_of}
 use Rattle.records.specs.Writing.{annual_record, calibration_record, unsigned32, unsigned64, bytes64, field_bytes, long_bytes, head_of, record_of}
 
 -- ---- signed numbers, as the code writes them by their bits
@@ -66,15 +66,15 @@ module _ (k m t : ℕ) where
       ∙ sym (record_written (fields ++ new))
 
 pub calibration_stored : (c : Fitted) (minute : ℕ) (z : ℤ)
-    → let r1 = written (record_of 5 (pass_mark c) minute []) 8 (field_bytes z) in
+    → let r1 = written (record_of 5 (pass_mark_of c) minute []) 8 (field_bytes z) in
     let r2 = written r1 12 (field_bytes c.line.slope) in
     let r3 = written r2 16 (long_bytes c.line.intercept) in
     written (written r3 24 (field_bytes c.top.0)) 28 (bytes32 c.count) ≡ calibration_record c minute z
 unfolding calibration_record bytes64 bytes32 bytes16
 calibration_stored c minute z =
-    let more = field_more 5 (pass_mark c) minute in
+    let more = field_more 5 (pass_mark_of c) minute in
     more _ _ _ 28 (more _ _ _ 24 (more _ _ _ 16 (more _ _ _ 12 (more [] _ _ 8 refl refl (omega arith)) refl (omega arith)) refl (omega arith)) refl (omega arith)) refl (omega arith)
 
-pub annual_stored : (t : Tested) (count minute : ℕ) → written (record_of 6 (test_mark t) minute []) 8 (bytes32 count) ≡ annual_record t count minute
+pub annual_stored : (t : Tested) (count minute : ℕ) → written (record_of 6 (test_mark_of t) minute []) 8 (bytes32 count) ≡ annual_record t count minute
 unfolding annual_record bytes32 bytes16
-annual_stored t count minute = field_more 6 (test_mark t) minute [] (bytes32 count) _ 8 refl refl (omega arith)
+annual_stored t count minute = field_more 6 (test_mark_of t) minute [] (bytes32 count) _ 8 refl refl (omega arith)

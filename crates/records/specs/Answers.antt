@@ -10,8 +10,8 @@ use Rattle.records.specs.declared.state.State.{State}
 unfoldable pub alarms_at : Point → State → Alarms
 alarms_at c st = alarms_of (chart_of c st) (deviation_of c st.setting)
 
-abbrev pub silent : Alarms → Bool
-silent a = (not a.rising && not a.falling) && not a.precision
+abbrev pub silent_of : Alarms → Bool
+silent_of a = (not a.rising && not a.falling) && not a.precision
 
 -- a calibration at most a number of minutes old; without one, no
 abbrev pub young_of : ℕ → ℕ → Calibration → Bool
@@ -25,5 +25,5 @@ recent_of limit m (Some first) = leb (m - first) limit
 
 unfoldable pub usable_of : State → Bool
 usable_of st =
-    (silent (alarms_at at_zero st) && silent (alarms_at at_span st))
+    (silent_of (alarms_at at_zero st) && silent_of (alarms_at at_span st))
     && (young_of 2629440 st.minute st.calibration && recent_of 263520 st.minute st.demand)

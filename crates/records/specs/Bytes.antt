@@ -24,9 +24,9 @@ unfoldable pub le32 : List ℕ → ℕ → ℕ
 le32 bytes at = le16 bytes at + 65536 * le16 bytes (at + 2)
 
 -- every byte is zero
-unfoldable pub all_zero : List ℕ → Bool
-all_zero [] = true
-all_zero (byte ∷ bytes) = eqb byte 0 && all_zero bytes
+unfoldable pub all_zero_of : List ℕ → Bool
+all_zero_of [] = true
+all_zero_of (byte ∷ bytes) = eqb byte 0 && all_zero_of bytes
 
 -- ---- writing
 

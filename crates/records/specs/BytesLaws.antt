@@ -6,7 +6,7 @@ use Rattle.std.proofs.Math.Seq.{drop-append-add}
 use Rattle.std.proofs.lemmas.List.{append-nil, drop-replicate, get_or-drop}
 use Rattle.std.proofs.lemmas.Nat.{le_bytes_2, le_bytes_4}
 use Rattle.std.proofs.lemmas.Bool.{and_parts}
-use Rattle.records.specs.Bytes.{AllBytes, le16, le32, all_zero, written, bytes16, bytes32}
+use Rattle.records.specs.Bytes.{AllBytes, le16, le32, all_zero_of, written, bytes16, bytes32}
 use Rattle.records.specs.LittleEndian.{from_le_bytes_16, from_le_bytes_32, to_le_bytes_16, to_le_bytes_32}
 
 -- ---- writing
@@ -108,22 +108,22 @@ module _ (bytes : List ℕ) (small : AllBytes bytes) (at : ℕ) where
 
 -- ---- zeros
 
-pub zero_append : (a b : List ℕ) → all_zero (a ++ b) ≡ (all_zero a && all_zero b)
-unfolding all_zero
+pub zero_append : (a b : List ℕ) → all_zero_of (a ++ b) ≡ (all_zero_of a && all_zero_of b)
+unfolding all_zero_of
 zero_append [] b = refl
 zero_append (x ∷ a) b =
     ap (λ (t : Bool). eqb x 0 && t) (zero_append a b)
-    ∙ sym (and_assoc (eqb x 0) (all_zero a) (all_zero b))
+    ∙ sym (and_assoc (eqb x 0) (all_zero_of a) (all_zero_of b))
 
-pub replicate_zero : (n : ℕ) → all_zero (replicate n 0) ≡ true
-unfolding all_zero
+pub replicate_zero : (n : ℕ) → all_zero_of (replicate n 0) ≡ true
+unfolding all_zero_of
 replicate_zero zero = refl
 replicate_zero (suc n) = replicate_zero n
 
 -- bytes that are all zero are as many zeros
-pub zero_is : (l : List ℕ) → all_zero l ≡ true → l ≡ replicate (length l) 0
-unfolding all_zero
+pub zero_is : (l : List ℕ) → all_zero_of l ≡ true → l ≡ replicate (length l) 0
+unfolding all_zero_of
 zero_is [] h = refl
 zero_is (x ∷ l) h =
-    let both = and_parts (eqb x 0) (all_zero l) h in
+    let both = and_parts (eqb x 0) (all_zero_of l) h in
     rw (eqb-true x 0 both.0) (ap (λ (r : List ℕ). 0 ∷ r) (zero_is l both.1))

@@ -6,7 +6,7 @@ use Rattle.std.proofs.Math.Option.{Option, none, some, get_or}
 use Rattle.charts.specs.Runs.{Alarm, Stands}
 use Rattle.records.specs.Lists.{since, those, any}
 use Rattle.records.specs.Record.{Record, minute, difference_of, waiting_of}
-use Rattle.records.specs.Kinds.{Point, no_setting, at_zero, at_span, reads, resets, is_pair, fails, empties, clears_calls, starts_period, counts, setting_after, calibration_after, deviation_of, week_of, outside_by, no_values, one_more, exceeds, raises_call, Calibration}
+use Rattle.records.specs.Kinds.{Point, no_setting, at_zero, at_span, reads, resets, is_pair, fails, empties, clears_calls, starts_period, counts, setting_after, calibration_after, deviation_of, week_of, outside_by, no_values, one_more, exceeds_of, raises_call_of, Calibration}
 use Rattle.records.specs.Table.{Facts, refusal_in}
 use Rattle.records.specs.declared.state.Setting.{Setting}
 use Rattle.records.specs.declared.state.Waiting.{Waiting}
@@ -106,14 +106,14 @@ unfoldable pub weeks_over : History → ℕ
 weeks_over [] = 0
 weeks_over (r ∷ h) =
     if starts_period r.bytes then 0
-    else (if exceeds 5 (judged_on h r) then suc (weeks_over h)
+    else (if exceeds_of 5 (judged_on h r) then suc (weeks_over h)
     else weeks_over h)
 
 -- ---- calls for a new calibration
 
 -- the week that is judged on r raises a call
 unfoldable pub week_calls : History → Entry → Bool
-week_calls h r = raises_call (judged_on h r) (weeks_over h)
+week_calls h r = raises_call_of (judged_on h r) (weeks_over h)
 
 -- a minute, where there is a call at it
 abbrev called : Bool → ℕ → List ℕ

@@ -25,19 +25,19 @@ pub data Point : Type 0 where
   at_zero at_span : Point
 
 -- the mark of a chart's records
-abbrev pub number : Point → ℕ
-number at_zero = 0
-number at_span = 1
+abbrev pub point_mark : Point → ℕ
+point_mark at_zero = 0
+point_mark at_span = 1
 
 -- the chart that a mark names
 abbrev pub point_of : ℕ → Point
 point_of m = if eqb m 0 then at_zero else at_span
 
 unfoldable pub reads : Point → Record → Bool
-reads c r = eqb (kind r) 2 && eqb (mark r) (number c)
+reads c r = eqb (kind r) 2 && eqb (mark r) (point_mark c)
 
 unfoldable pub resets : Point → Record → Bool
-resets c r = eqb (kind r) 3 && eqb (mark r) (number c)
+resets c r = eqb (kind r) 3 && eqb (mark r) (point_mark c)
 
 unfoldable pub sets : Record → Bool
 sets r = eqb (kind r) 1
@@ -120,7 +120,7 @@ unfoldable pub line_of : Function → Line
 line_of f = record { slope = f.slope; intercept = f.intercept }
 
 -- A value lies outside the range of the function in force: its c, rounded by the edition of the value's own block, is
--- negative or exceeds the top as it is stored. Without a function row 19 stops it, so that the first line is never
+-- negative or exceeds_of the top as it is stored. Without a function row 19 stops it, so that the first line is never
 -- asked.
 unfoldable pub outside_by : ℕ → Calibration → Setting → Record → Bool
 outside_by edition None s r = false
@@ -137,11 +137,11 @@ no_values = record { total = 0; outside = 0 }
 unfoldable pub one_more : Bool → Tally → Tally
 one_more outside t = record { total = t.total + 1; outside = if outside then t.outside + 1 else t.outside }
 
--- more than a number of percent are outside
-abbrev pub exceeds : ℕ → Tally → Bool
-exceeds percent t = ltb (percent * t.total) (100 * t.outside)
+-- more than a point_mark of percent are outside
+abbrev pub exceeds_of : ℕ → Tally → Bool
+exceeds_of percent t = ltb (percent * t.total) (100 * t.outside)
 
 -- A judged week raises a call: over 40 percent, or over 5 percent as the sixth such week of its period. Paper 02, C-11,
 -- has a week not judged where none of its values counts: with no values no percentage is exceeded.
-unfoldable pub raises_call : Tally → ℕ → Bool
-raises_call t over = exceeds 40 t || exceeds 5 t && eqb over 5
+unfoldable pub raises_call_of : Tally → ℕ → Bool
+raises_call_of t over = exceeds_of 40 t || exceeds_of 5 t && eqb over 5

@@ -5,7 +5,7 @@ use Rattle.calibration.specs.Pairs.{between_of, pair_ranged_of, conditions_range
 use Rattle.calibration.specs.declared.conditions.Conditions.{Conditions}
 use Rattle.calibration.specs.declared.pairs.Pair.{Pair}
 use Rattle.calibration.specs.declared.pairs.Requirements.{Requirements}
-use Rattle.records.specs.Bytes.{byte_at, le32, all_zero}
+use Rattle.records.specs.Bytes.{byte_at, le32, all_zero_of}
 use Rattle.records.specs.declared.state.Setting.{Setting}
 use Rattle.records.specs.declared.state.Waiting.{Waiting}
 use Rattle.records.specs.declared.state.Function.{Function}
@@ -35,12 +35,12 @@ signed32 n = if ltb n 2147483648 then pos n else negsuc (4294967295 - n)
 unfoldable pub signed64 : ℕ → ℤ
 signed64 n = if ltb n 9223372036854775808 then pos n else negsuc (18446744073709551615 - n)
 
--- a signed field of four bytes, and one of eight
-unfoldable pub field : Record → ℕ → ℤ
-field r at = signed32 (le32 r at)
+-- a signed field_of of four bytes, and one of eight
+unfoldable pub field_of : Record → ℕ → ℤ
+field_of r at = signed32 (le32 r at)
 
-unfoldable pub long_field : Record → ℕ → ℤ
-long_field r at = signed64 (le32 r at + 4294967296 * le32 r (at + 4))
+unfoldable pub long_field_of : Record → ℕ → ℤ
+long_field_of r at = signed64 (le32 r at + 4294967296 * le32 r (at + 4))
 
 -- ---- which marks, and where the fields end
 
@@ -65,7 +65,7 @@ fields_end k =
 
 -- a mark of at most so much, bytes 2 and 3 zero, and every byte from a place on
 unfoldable pub plain_of : ℕ → ℕ → Record → Bool
-plain_of marks end r = (leb (mark r) marks && eqb (byte_at r 2) 0) && (eqb (byte_at r 3) 0 && all_zero (drop end r))
+plain_of marks end r = (leb (mark r) marks && eqb (byte_at r 2) 0) && (eqb (byte_at r 3) 0 && all_zero_of (drop end r))
 
 -- kind 1 to 8, a mark of that kind, and no stray byte
 unfoldable pub formed_of : Record → Bool
@@ -75,71 +75,71 @@ formed_of r = (leb 1 (kind r) && leb (kind r) 8) && plain_of (mark_limit (kind r
 
 -- kind 1: E, σ and the reference oxygen; s of the two charts; response minutes
 unfoldable pub requirements_of : Record → Requirements
-requirements_of r = record { limit = field r 8; uncertainty = field r 12; oxygen = field r 24 }
+requirements_of r = record { limit = field_of r 8; uncertainty = field_of r 12; oxygen = field_of r 24 }
 
 unfoldable pub setting_of : Record → Setting
-setting_of r = record { requirements = requirements_of r; zero = nat_abs (field r 16); span = nat_abs (field r 20); response = nat_abs (field r 28) }
+setting_of r = record { requirements = requirements_of r; zero = nat_abs (field_of r 16); span = nat_abs (field_of r 20); response = nat_abs (field_of r 28) }
 
 -- kind 2: the difference, the reading less its reference
 unfoldable pub difference_of : Record → ℤ
-difference_of r = field r 8 -ℤ field r 12
+difference_of r = field_of r 8 -ℤ field_of r 12
 
 -- t, p, h and o in four fields from a place on
-unfoldable pub conditions_at : Record → ℕ → Conditions
-conditions_at r at = record { temperature = field r at; pressure = field r (at + 4); water = field r (at + 8); oxygen = field r (at + 12) }
+unfoldable pub conditions_of : Record → ℕ → Conditions
+conditions_of r at = record { temperature = field_of r at; pressure = field_of r (at + 4); water = field_of r (at + 8); oxygen = field_of r (at + 12) }
 
 -- kind 4: length, coverage, and the pair with its times; the record's minute is when the pair ends
 unfoldable pub length_of : Record → ℕ
-length_of r = nat_abs (field r 8)
+length_of r = nat_abs (field_of r 8)
 
 unfoldable pub coverage_of : Record → ℤ
-coverage_of r = field r 12
+coverage_of r = field_of r 12
 
 unfoldable pub pair_of : Record → Pair
-pair_of r = record { signal = field r 16; srm = record { 0 = field r 20 }; conditions = conditions_at r 24 }
+pair_of r = record { signal = field_of r 16; srm = record { 0 = field_of r 20 }; conditions = conditions_of r 24 }
 
 unfoldable pub waiting_of : Record → Waiting
 waiting_of r = record { start = minute r - length_of r; end = minute r; pair = pair_of r }
 
 -- kind 5: Z, and the stored slope, intercept and top with the minute
 unfoldable pub z_of : Record → ℤ
-z_of r = field r 8
+z_of r = field_of r 8
 
 unfoldable pub function_of : Record → Function
-function_of r = record { slope = field r 12; intercept = long_field r 16; top = record { 0 = field r 24 }; minute = minute r }
+function_of r = record { slope = field_of r 12; intercept = long_field_of r 16; top = record { 0 = field_of r 24 }; minute = minute r }
 
 -- kind 7: the signal, and its conditions
 unfoldable pub signal_of : Record → ℤ
-signal_of r = field r 8
+signal_of r = field_of r 8
 
 unfoldable pub value_conditions : Record → Conditions
-value_conditions r = conditions_at r 12
+value_conditions r = conditions_of r 12
 
 -- ---- ranges
 
-unfoldable pub setting_ranged : Record → Bool
-setting_ranged r =
+unfoldable pub setting_ranged_of : Record → Bool
+setting_ranged_of r =
     requirements_ranged_of (requirements_of r)
-    && (between_of (pos 1) (pos 10000) (field r 16)
-    && (between_of (pos 1) (pos 10000) (field r 20) && between_of (pos 0) (pos 60) (field r 28)))
+    && (between_of (pos 1) (pos 10000) (field_of r 16)
+    && (between_of (pos 1) (pos 10000) (field_of r 20) && between_of (pos 0) (pos 60) (field_of r 28)))
 
-unfoldable pub reading_ranged : Record → Bool
-reading_ranged r = between_of (neg_ℤ (pos 400000)) (pos 400000) (field r 8) && between_of (pos 0) (pos 400000) (field r 12)
+unfoldable pub reading_ranged_of : Record → Bool
+reading_ranged_of r = between_of (neg_ℤ (pos 400000)) (pos 400000) (field_of r 8) && between_of (pos 0) (pos 400000) (field_of r 12)
 
-unfoldable pub waiting_ranged : Record → Bool
-waiting_ranged r =
-    between_of (pos 30) (pos 1440) (field r 8)
-    && (between_of (pos 0) (pos 100) (field r 12) && pair_ranged_of (pair_of r))
+unfoldable pub waiting_ranged_of : Record → Bool
+waiting_ranged_of r =
+    between_of (pos 30) (pos 1440) (field_of r 8)
+    && (between_of (pos 0) (pos 100) (field_of r 12) && pair_ranged_of (pair_of r))
 
-unfoldable pub value_ranged : Record → Bool
-value_ranged r = between_of (pos 0) (pos 400000) (signal_of r) && conditions_ranged_of (value_conditions r)
+unfoldable pub value_ranged_of : Record → Bool
+value_ranged_of r = between_of (pos 0) (pos 400000) (signal_of r) && conditions_ranged_of (value_conditions r)
 
--- every field that has a range is in it; of a closing that is Z alone
+-- every field_of that has a range is in it; of a closing that is Z alone
 unfoldable pub ranged_of : Record → Bool
 ranged_of r =
-    if eqb (kind r) 1 then setting_ranged r
-    else (if eqb (kind r) 2 then reading_ranged r
-    else (if eqb (kind r) 4 then waiting_ranged r
+    if eqb (kind r) 1 then setting_ranged_of r
+    else (if eqb (kind r) 2 then reading_ranged_of r
+    else (if eqb (kind r) 4 then waiting_ranged_of r
     else (if eqb (kind r) 5 then z_ranged_of (z_of r)
-    else (if eqb (kind r) 7 then value_ranged r
+    else (if eqb (kind r) 7 then value_ranged_of r
     else true))))

@@ -7,7 +7,7 @@ use Rattle.refusals.specs.declared.Refusal.{Refusal}
 use Rattle.charts.specs.Charts.{blank, reset_of, applied_of}
 use Rattle.charts.specs.declared.Chart.{Chart}
 use Rattle.records.specs.Record.{Record, minute, difference_of, waiting_of}
-use Rattle.records.specs.Kinds.{Point, no_setting, at_zero, at_span, reads, resets, is_pair, fails, empties, clears_calls, starts_period, counts, setting_after, calibration_after, deviation_of, week_of, outside_by, no_values, one_more, exceeds, raises_call, Demand}
+use Rattle.records.specs.Kinds.{Point, no_setting, at_zero, at_span, reads, resets, is_pair, fails, empties, clears_calls, starts_period, counts, setting_after, calibration_after, deviation_of, week_of, outside_by, no_values, one_more, exceeds_of, raises_call_of, Demand}
 use Rattle.records.specs.Table.{Facts, refusal_in}
 use Rattle.records.specs.declared.state.Setting.{Setting}
 use Rattle.records.specs.declared.state.Waiting.{Waiting}
@@ -117,10 +117,10 @@ applied_to st r =
           if starts_period r then no_values
           else (if counts r then one_more (outside_by st.edition st.calibration st.setting r) running
           else running);
-      over = if starts_period r then 0 else (if exceeds 5 judged then st.over + 1 else st.over);
+      over = if starts_period r then 0 else (if exceeds_of 5 judged then st.over + 1 else st.over);
       demand =
           if clears_calls r then None
-          else (if fails r || raises_call judged st.over then raised_of st.demand (minute r)
+          else (if fails r || raises_call_of judged st.over then raised_of st.demand (minute r)
           else st.demand);
       edition = st.edition;
     }

@@ -3,7 +3,7 @@ use Rattle.std.specs.Prelude.{true, ℕ, ◌+◌, eqb, set, if◌then◌else◌,
 use Rattle.charts.specs.Charts.{reset_of, applied_of}
 use Rattle.charts.specs.declared.Chart.{Chart}
 use Rattle.records.specs.Record.{Record, mark, minute, difference_of, function_of}
-use Rattle.records.specs.Kinds.{Point, at_zero, at_span, point_of, deviation_of, counts, outside_by, no_values, one_more, exceeds, raises_call}
+use Rattle.records.specs.Kinds.{Point, at_zero, at_span, point_of, deviation_of, counts, outside_by, no_values, one_more, exceeds_of, raises_call_of}
 use Rattle.records.specs.State.{chart_of, no_pairs, judged_at, running_at, raised_of}
 use Rattle.records.specs.declared.state.Waiting.{Waiting}
 use Rattle.records.specs.declared.state.Function.{Function}
@@ -31,8 +31,8 @@ judged_of st m = record st {
   begun = true;
   minute = m;
   tally = running_at st m;
-  over = if exceeds 5 (judged_at st m) then st.over + 1 else st.over;
-  demand = if raises_call (judged_at st m) st.over then raised_of st.demand m else st.demand;
+  over = if exceeds_of 5 (judged_at st m) then st.over + 1 else st.over;
+  demand = if raises_call_of (judged_at st m) st.over then raised_of st.demand m else st.demand;
 }
 
 -- a value, where it counts

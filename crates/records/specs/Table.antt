@@ -5,12 +5,12 @@ use Rattle.std.specs.Prelude.{Bool, true, false, not, ◌&&◌, ◌||◌, List, 
 use Rattle.std.proofs.Math.Option.{Option, none, some}
 use Rattle.std.specs.Int.Signed.{le_z}
 use Rattle.refusals.specs.Rows.{◌when◌, ◌or◌}
-use Rattle.calibration.specs.Calibration.{count_fits, fit_of, refused_fit}
+use Rattle.calibration.specs.Calibration.{count_fits_of, fit_of, refused_fit}
 use Rattle.calibration.specs.Annual.{test_of, refused_test}
 use Rattle.calibration.specs.declared.pairs.Pair.{Pair}
 use Rattle.calibration.specs.Outcomes.{Fitted}
 use Rattle.calibration.specs.Outcomes.{Tested}
-use Rattle.records.specs.Record.{Record, kind, mark, minute, minute_limit, field, long_field, formed_of, ranged_of, length_of, coverage_of, z_of}
+use Rattle.records.specs.Record.{Record, kind, mark, minute, minute_limit, field_of, long_field_of, formed_of, ranged_of, length_of, coverage_of, z_of}
 use Rattle.records.specs.Kinds.{sets, day_of, response_of, line_of, Calibration}
 use Rattle.records.specs.declared.state.Setting.{Setting}
 use Rattle.records.specs.declared.state.Waiting.{Waiting}
@@ -34,24 +34,24 @@ pub record Facts : Type 0 where
 -- ---- 11, 12
 
 -- a setting that is not the first record, or a first record that is no setting
-unfoldable pub misplaced : Facts → Record → Bool
-misplaced f r = if f.begun then sets r else not (sets r)
+unfoldable pub misplaced_of : Facts → Record → Bool
+misplaced_of f r = if f.begun then sets r else not (sets r)
 
 -- a minute before that of the last record, or past the last one there is
-unfoldable pub untimely : Facts → ℕ → Bool
-untimely f m = ltb m f.minute || ltb minute_limit m
+unfoldable pub untimely_of : Facts → ℕ → Bool
+untimely_of f m = ltb m f.minute || ltb minute_limit m
 
 -- ---- 14, 15
 
-unfoldable pub chart_refusal : Bool → ℕ → ℕ
-chart_refusal started readings =
+unfoldable pub chart_refusal_of : Bool → ℕ → ℕ
+chart_refusal_of started readings =
     14 when not started
     or 15 when leb 100000 readings
 
-unfoldable pub reading_refusal : Facts → Record → ℕ
-reading_refusal f r =
-    if eqb (mark r) 0 then chart_refusal f.zero_started f.zero_readings
-    else chart_refusal f.span_started f.span_readings
+unfoldable pub reading_refusal_of : Facts → Record → ℕ
+reading_refusal_of f r =
+    if eqb (mark r) 0 then chart_refusal_of f.zero_started f.zero_readings
+    else chart_refusal_of f.span_started f.span_readings
 
 -- ---- 18, 16, 17
 
@@ -61,35 +61,35 @@ last_of (w ∷ []) = some w
 last_of (w ∷ v ∷ ws) = last_of (v ∷ ws)
 
 -- after the pair w that waits before it: never inside w, and a short pair not too soon after w began
-unfoldable pub follows_one : Waiting → ℕ → ℕ → Bool
-follows_one w start length = leb w.end start && (leb 60 length || ltb (w.start + 60) start)
+unfoldable pub follows_one_of : Waiting → ℕ → ℕ → Bool
+follows_one_of w start length = leb w.end start && (leb 60 length || ltb (w.start + 60) start)
 
 unfoldable pub follows : Option Waiting → ℕ → ℕ → Bool
 follows none start length = true
-follows (some w) start length = follows_one w start length
+follows (some w) start length = follows_one_of w start length
 
 -- long enough for the response time, not begun before minute 0, and after the pair that waits before it
-unfoldable pub times_fit : Facts → Record → Bool
-times_fit f r =
+unfoldable pub times_fit_of : Facts → Record → Bool
+times_fit_of f r =
     leb (4 * response_of f.setting) (length_of r)
     && (leb (length_of r) (minute r) && follows (last_of f.pending) (minute r - length_of r) (length_of r))
 
-unfoldable pub pair_refusal : Facts → Record → ℕ
-pair_refusal f r =
+unfoldable pub pair_refusal_of : Facts → Record → ℕ
+pair_refusal_of f r =
     18 when leb 30 (length f.pending)
-    or 16 when not (times_fit f r)
+    or 16 when not (times_fit_of f r)
     or 17 when le_z (coverage_of r) (pos 90)
 
 -- ---- 19 of an annual closing, 20 to 24
 
-abbrev pub among : ℕ → List ℕ → Bool
-among d [] = false
-among d (e ∷ ds) = eqb d e || among d ds
+abbrev pub among_of : ℕ → List ℕ → Bool
+among_of d [] = false
+among_of d (e ∷ ds) = eqb d e || among_of d ds
 
 -- how many different numbers
 abbrev pub different : List ℕ → ℕ
 different [] = 0
-different (d ∷ ds) = if among d ds then different ds else suc (different ds)
+different (d ∷ ds) = if among_of d ds then different ds else suc (different ds)
 
 abbrev pub end_day : Waiting → ℕ
 end_day w = day_of w.end
@@ -103,8 +103,8 @@ last_end none = 0
 last_end (some w) = w.end
 
 -- spread over days enough, and not over too long a time
-unfoldable pub days_fit : List Waiting → Bool
-days_fit ws = leb 3 (different (map end_day ws)) && leb (last_end (last_of ws) - first_start ws) 40320
+unfoldable pub days_fit_of : List Waiting → Bool
+days_fit_of ws = leb 3 (different (map end_day ws)) && leb (last_end (last_of ws) - first_start ws) 40320
 
 abbrev pub pair_of_waiting : Waiting → Pair
 pair_of_waiting w = w.pair
@@ -112,8 +112,8 @@ pair_of_waiting w = w.pair
 -- a calibration closing over the pairs that wait, with Z: 20, 21, then the fit's refusals, or its figures
 unfoldable pub calibration_of : Facts → ℤ → Fitted
 calibration_of f z =
-    if not (count_fits (length f.pending)) then refused_fit 20
-    else (if not (days_fit f.pending) then refused_fit 21
+    if not (count_fits_of (length f.pending)) then refused_fit 20
+    else (if not (days_fit_of f.pending) then refused_fit 21
     else fit_of f.edition f.setting.requirements z (map pair_of_waiting f.pending))
 
 -- an annual closing: 19, then the test's refusals, or its verdicts
@@ -130,33 +130,33 @@ abbrev pub sameℤ : ℤ → ℤ → Bool
 sameℤ a b = le_z a b && le_z b a
 
 -- the mark of a calibration closing: 1 where passed
-abbrev pub pass_mark : Fitted → ℕ
-pass_mark c = if c.passed then 1 else 0
+abbrev pub pass_mark_of : Fitted → ℕ
+pass_mark_of c = if c.passed then 1 else 0
 
 -- the stored mark and figures are those worked out
-unfoldable pub stores_fit : Fitted → Record → Bool
-stores_fit c r =
-    (eqb (mark r) (pass_mark c) && sameℤ (field r 12) c.line.slope)
-    && (sameℤ (long_field r 16) c.line.intercept && (sameℤ (field r 24) c.top.0 && sameℤ (field r 28) (pos c.count)))
+unfoldable pub stores_fit_of : Fitted → Record → Bool
+stores_fit_of c r =
+    (eqb (mark r) (pass_mark_of c) && sameℤ (field_of r 12) c.line.slope)
+    && (sameℤ (long_field_of r 16) c.line.intercept && (sameℤ (field_of r 24) c.top.0 && sameℤ (field_of r 28) (pos c.count)))
 
-unfoldable pub calibration_refusal : Facts → Record → ℕ
-calibration_refusal f r =
+unfoldable pub calibration_refusal_of : Facts → Record → ℕ
+calibration_refusal_of f r =
     let c : Fitted = calibration_of f (z_of r) in
     c.refusal
-    or 25 when not (stores_fit c r)
+    or 25 when not (stores_fit_of c r)
 
 -- the mark of an annual closing: a bit for each verdict
-abbrev pub test_mark : Tested → ℕ
-test_mark t = (if t.variability then 1 else 0) + (if t.function then 2 else 0)
+abbrev pub test_mark_of : Tested → ℕ
+test_mark_of t = (if t.variability then 1 else 0) + (if t.function then 2 else 0)
 
-unfoldable pub stores_test : Tested → ℕ → Record → Bool
-stores_test t n r = eqb (mark r) (test_mark t) && sameℤ (field r 8) (pos n)
+unfoldable pub stores_test_of : Tested → ℕ → Record → Bool
+stores_test_of t n r = eqb (mark r) (test_mark_of t) && sameℤ (field_of r 8) (pos n)
 
-unfoldable pub annual_refusal : Facts → Record → ℕ
-annual_refusal f r =
+unfoldable pub annual_refusal_of : Facts → Record → ℕ
+annual_refusal_of f r =
     let t : Tested = annual_of f in
     t.refusal
-    or 25 when not (stores_test t (length f.pending) r)
+    or 25 when not (stores_test_of t (length f.pending) r)
 
 -- ---- 19 for a value
 
@@ -164,24 +164,24 @@ abbrev pub in_force : Calibration → Bool
 in_force None = false
 in_force (Some f) = true
 
-unfoldable pub value_refusal : Facts → ℕ
-value_refusal f = 19 when not (in_force f.calibration)
+unfoldable pub value_refusal_of : Facts → ℕ
+value_refusal_of f = 19 when not (in_force f.calibration)
 
 -- ---- the table, downwards: the first row that fits; 0 where none does
 
-unfoldable pub kind_refusal : Facts → Record → ℕ
-kind_refusal f r =
-    if eqb (kind r) 2 then reading_refusal f r
-    else (if eqb (kind r) 4 then pair_refusal f r
-    else (if eqb (kind r) 5 then calibration_refusal f r
-    else (if eqb (kind r) 6 then annual_refusal f r
-    else (if eqb (kind r) 7 then value_refusal f
+unfoldable pub kind_refusal_of : Facts → Record → ℕ
+kind_refusal_of f r =
+    if eqb (kind r) 2 then reading_refusal_of f r
+    else (if eqb (kind r) 4 then pair_refusal_of f r
+    else (if eqb (kind r) 5 then calibration_refusal_of f r
+    else (if eqb (kind r) 6 then annual_refusal_of f r
+    else (if eqb (kind r) 7 then value_refusal_of f
     else 0))))
 
 unfoldable pub refusal_in : Facts → Record → ℕ
 refusal_in f r =
     10 when not (formed_of r)
-    or 11 when misplaced f r
-    or 12 when untimely f (minute r)
+    or 11 when misplaced_of f r
+    or 12 when untimely_of f (minute r)
     or 13 when not (ranged_of r)
-    or kind_refusal f r
+    or kind_refusal_of f r

@@ -4,7 +4,7 @@ use Rattle.std.specs.Prelude.{List, [], ◌∷◌, ◌++◌, ℕ, ◌-◌, ◌/�
 use Rattle.calibration.specs.Outcomes.{Fitted, Tested}
 use Rattle.records.specs.Bytes.{bytes32}
 use Rattle.records.specs.Record.{Record}
-use Rattle.records.specs.Table.{pass_mark, test_mark}
+use Rattle.records.specs.Table.{pass_mark_of, test_mark_of}
 
 -- ---- fields
 
@@ -41,9 +41,9 @@ record_of kind mark minute fields = head_of kind mark minute ++ fields ++ replic
 -- kind 5: Z, slope, intercept, top and N
 unfoldable pub calibration_record : Fitted → ℕ → ℤ → Record
 calibration_record c minute z =
-    record_of 5 (pass_mark c) minute
+    record_of 5 (pass_mark_of c) minute
     (field_bytes z ++ field_bytes c.line.slope ++ long_bytes c.line.intercept ++ field_bytes c.top.0 ++ bytes32 c.count)
 
 -- kind 6: N
 unfoldable pub annual_record : Tested → ℕ → ℕ → Record
-annual_record t count minute = record_of 6 (test_mark t) minute (bytes32 count)
+annual_record t count minute = record_of 6 (test_mark_of t) minute (bytes32 count)

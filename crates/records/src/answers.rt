@@ -1,13 +1,13 @@
 // What a state answers on usability, condition by condition (paper 01, 'Usable').
 ghost use Rattle.std.specs.Prelude.{◌≡◌};
-ghost use Rattle.records.specs.Answers.{recent_of, silent as Answers·silent, young_of};
+ghost use Rattle.records.specs.Answers.{recent_of, silent_of, young_of};
 
 use crate::state::Function;
 use charts::Alarms;
 
 // No alarm of a chart.
 pub fn silent(a: Alarms) -> bool
-    ensures { result ≡ Answers·silent a }
+    ensures { result ≡ silent_of a }
 {
     !a.rising && !a.falling && !a.precision
 }

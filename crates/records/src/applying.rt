@@ -2,13 +2,13 @@
 // be taken apart there.
 ghost use Rattle.std.specs.Prelude.{◌≡◌, ◌≢◌, true, false, ◌+◌, ◌<◌, ◌≤◌, if◌then◌else◌};
 ghost use Rattle.charts.specs.ChartSoundness.{ChartSound};
-ghost use Rattle.records.specs.Record.{kind, mark, minute, reading_ranged, value_ranged};
-ghost use Rattle.records.specs.Kinds.{deviation_of, exceeds as Kinds·exceeds, outside_by, point_of, raises_call as Kinds·raises_call};
+ghost use Rattle.records.specs.Record.{kind, mark, minute, reading_ranged_of, value_ranged_of};
+ghost use Rattle.records.specs.Kinds.{deviation_of, exceeds_of, outside_by, point_of, raises_call_of};
 ghost use Rattle.records.specs.Soundness.{CalibrationSound, Fitting, SettingSound};
-ghost use Rattle.records.specs.Table.{reading_refusal, refusal_in};
+ghost use Rattle.records.specs.Table.{reading_refusal_of, refusal_in};
 ghost use Rattle.records.specs.State.{applied_to, chart_of, facts_of, initial_of, judged_at, no_pair, raised_of, running_at};
 ghost use Rattle.records.specs.InPlace.{InWeek, in_week_of};
-ghost use Rattle.records.specs.StateParts.{emptied as StateParts·emptied, judged_of, with_chart, with_failure, with_function, with_pair, with_period, with_reading, with_reset, with_value};
+ghost use Rattle.records.specs.StateParts.{emptied, judged_of, with_chart, with_failure, with_function, with_pair, with_period, with_reading, with_reset, with_value};
 
 use crate::state::{Function, Setting, State, Tally, Waiting};
 use crate::{bytes, fields};
@@ -16,7 +16,7 @@ use charts::Chart;
 
 // A place of the array that holds no pair.
 #[tactic(auto, unfolding(crate::specs::State::no_pair))]
-fn no_pair() -> Waiting
+fn blank_pair() -> Waiting
     ensures { result ≡ no_pair }
 {
     Waiting::default()
@@ -36,7 +36,7 @@ pub fn initial(analyser: u32) -> State
         zero: charts::unstarted(),
         span: charts::unstarted(),
         pending: 0,
-        pairs: [no_pair(); 30],
+        pairs: [blank_pair(); 30],
         calibration: None,
         tally: Tally::default(),
         over: 0,
@@ -50,15 +50,15 @@ pub fn initial(analyser: u32) -> State
 // Whether more than a number of percent are outside.
 fn exceeds(percent: u64, t: Tally) -> bool
     requires { percent ≤ 100 }
-    ensures { result ≡ Kinds·exceeds percent t }
+    ensures { result ≡ exceeds_of percent t }
 {
     percent * u64::from(t.total) < 100 * u64::from(t.outside)
 }
 
 // Whether a judged week raises a call: over 40 percent, or over 5 percent as the sixth of its period.
-#[tactic(auto, unfolding(crate::specs::Kinds::raises_call))]
+#[tactic(auto, unfolding(crate::specs::Kinds::raises_call_of))]
 fn raises_call(t: Tally, over: u32) -> bool
-    ensures { result ≡ Kinds·raises_call t over }
+    ensures { result ≡ raises_call_of t over }
 {
     exceeds(40, t) | (exceeds(5, t) & (over == 5))
 }
@@ -86,16 +86,16 @@ fn running_week(st: State, m: u32) -> Tally
 }
 
 // The count of weeks over 5 percent, with the week that is judged.
-fn weeks_over(over: u32, week: Tally) -> u32
+fn weeks_with(over: u32, week: Tally) -> u32
     requires { over < 4294967295 }
-    ensures { result ≡ (if Kinds·exceeds 5 week then over + 1 else over) }
+    ensures { result ≡ (if exceeds_of 5 week then over + 1 else over) }
 {
     over + u32::from(exceeds(5, week))
 }
 
 // The first call stays the first.
 fn demand_after(st: State, week: Tally, m: u32) -> Option<u32>
-    ensures { result ≡ (if Kinds·raises_call week st.over then raised_of st.demand m else st.demand) }
+    ensures { result ≡ (if raises_call_of week st.over then raised_of st.demand m else st.demand) }
 {
     if raises_call(week, st.over) {
         return st.demand.or(Some(m));
@@ -114,7 +114,7 @@ fn judged(st: State, m: u32) -> State
         begun: true,
         minute: m,
         tally: running_week(st, m),
-        over: weeks_over(st.over, week),
+        over: weeks_with(st.over, week),
         demand: demand_after(st, week, m),
         ..st
     }
@@ -122,7 +122,7 @@ fn judged(st: State, m: u32) -> State
 
 // ---- kinds
 
-fn with_pair(mut st: State, w: Waiting) -> State
+fn add_pair(mut st: State, w: Waiting) -> State
     requires { st.pending < 30 }
     ensures { result ≡ with_pair st w }
 {
@@ -132,17 +132,17 @@ fn with_pair(mut st: State, w: Waiting) -> State
 }
 
 #[tactic(auto, unfolding(crate::specs::State::no_pairs))]
-fn emptied(st: State) -> State
-    ensures { result ≡ StateParts·emptied st }
+fn empty_pairs(st: State) -> State
+    ensures { result ≡ emptied st }
 {
     State {
         pending: 0,
-        pairs: [no_pair(); 30],
+        pairs: [blank_pair(); 30],
         ..st
     }
 }
 
-fn with_failure(st: State, m: u32) -> State
+fn fail(st: State, m: u32) -> State
     ensures { result ≡ with_failure st m }
 {
     State {
@@ -152,8 +152,8 @@ fn with_failure(st: State, m: u32) -> State
 }
 
 #[tactic(auto, unfolding(crate::specs::Kinds::no_values))]
-fn with_function(st: State, f: Function) -> State
-    ensures { result ≡ with_function (StateParts·emptied st) f }
+fn put_in_force(st: State, f: Function) -> State
+    ensures { result ≡ with_function (emptied st) f }
 {
     State {
         calibration: Some(f),
@@ -165,8 +165,8 @@ fn with_function(st: State, f: Function) -> State
 }
 
 #[tactic(auto, unfolding(crate::specs::Kinds::no_values))]
-fn with_period(st: State) -> State
-    ensures { result ≡ with_period (StateParts·emptied st) }
+fn start_period(st: State) -> State
+    ensures { result ≡ with_period (emptied st) }
 {
     State {
         tally: Tally::default(),
@@ -178,7 +178,7 @@ fn with_period(st: State) -> State
 // Whether a value is outside, with the function in force, by the edition of its block.
 #[tactic(auto, unfolding(crate::specs::Record::value_conditions, crate::specs::Kinds::outside_by, crate::specs::Kinds::line_of))]
 fn outside(st: &State, r: &[u8; 40]) -> bool
-    requires { CalibrationSound st.now.calibration × SettingSound st.now.setting × (value_ranged r.now ≡ true) }
+    requires { CalibrationSound st.now.calibration × SettingSound st.now.setting × (value_ranged_of r.now ≡ true) }
     ensures { result ≡ outside_by st.now.edition st.now.calibration st.now.setting r.now }
 {
     match st.calibration {
@@ -188,8 +188,8 @@ fn outside(st: &State, r: &[u8; 40]) -> bool
                 st.edition,
                 st.setting.requirements.oxygen,
                 f.line(),
-                fields::conditions_at(r, 12),
-                fields::field_at(r, 8),
+                fields::conditions(r, 12),
+                fields::field(r, 8),
             );
             (c.0 < 0) | (f.top.0 < c.0)
         }
@@ -202,7 +202,7 @@ fn outside(st: &State, r: &[u8; 40]) -> bool
 #[tactic(auto, unfolding(crate::specs::StateParts::with_value, crate::specs::Kinds::counts, crate::specs::Kinds::one_more, crate::specs::Record::kind, crate::specs::Record::mark))]
 fn count_value(st: &mut State, r: &[u8; 40])
     requires counts { (st.old.tally.total < 4294967295) × (st.old.tally.outside < 4294967295) }
-    requires figures { (kind r.now ≡ 7) × CalibrationSound st.old.calibration × SettingSound st.old.setting × (value_ranged r.now ≡ true) }
+    requires figures { (kind r.now ≡ 7) × CalibrationSound st.old.calibration × SettingSound st.old.setting × (value_ranged_of r.now ≡ true) }
     ensures { st.new ≡ with_value st.old r.now }
 {
     if r[1] != 0 {
@@ -228,16 +228,16 @@ fn change_chart<F: FnOnce(Chart, u16) -> Chart>(st: &mut State, mark: u8, change
 
 #[inline(always)]
 fn take_reading(st: &mut State, r: &[u8; 40])
-    requires { (reading_ranged r.now ≡ true) × (reading_refusal (facts_of st.old) r.now ≡ 0) × ChartSound st.old.zero × ChartSound st.old.span }
+    requires { (reading_ranged_of r.now ≡ true) × (reading_refusal_of (facts_of st.old) r.now ≡ 0) × ChartSound st.old.zero × ChartSound st.old.span }
     ensures { st.new ≡ with_reading st.old r.now }
 {
     let edition = st.edition;
-    let d = fields::difference_of(r);
+    let d = fields::difference(r);
     change_chart(&mut *st, r[1], |chart, s| chart.apply(edition, s, d));
 }
 
 #[tactic(auto, unfolding(crate::specs::StateParts::with_reset, crate::specs::Record::mark))]
-fn with_reset(mut st: State, r: &[u8; 40]) -> State
+fn reset_chart(mut st: State, r: &[u8; 40]) -> State
     ensures { result ≡ with_reset st r.now }
 {
     change_chart(&mut st, r[1], |chart, _| chart.reset());
@@ -253,7 +253,7 @@ fn with_closing<F: FnOnce(State) -> State>(st: State, r: &[u8; 40], pass: u8, pa
     if r[1] == pass {
         return passed(st);
     }
-    with_failure(st, bytes::read32(r, 4))
+    fail(st, bytes::read32(r, 4))
 }
 
 // An accepted record: the week is judged first, then the kind is applied; the table accepts kinds 1 to 8 only.
@@ -265,7 +265,7 @@ pub fn apply(st: State, r: &[u8; 40]) -> State
     // The kind stays a byte, matched with ranges: a rule of the project.
     match r[0] {
         1 => State {
-            setting: fields::setting_of(r),
+            setting: fields::setting(r),
             ..s
         },
         2 => {
@@ -273,17 +273,17 @@ pub fn apply(st: State, r: &[u8; 40]) -> State
             take_reading(&mut s, r);
             s
         }
-        3 => with_reset(s, r),
-        4 => with_pair(s, fields::waiting_of(r)),
+        3 => reset_chart(s, r),
+        4 => add_pair(s, fields::waiting(r)),
         // A passed calibration comes into force with its stored figures, and a passed annual test starts a period.
-        5 => with_closing(s, r, 1, |s| with_function(s, fields::function_of(r))),
-        6 => with_closing(s, r, 3, |s| with_period(s)),
+        5 => with_closing(s, r, 1, |s| put_in_force(s, fields::function(r))),
+        6 => with_closing(s, r, 3, |s| start_period(s)),
         7 => {
             let mut s = s;
             count_value(&mut s, r);
             s
         }
-        8 => emptied(s),
+        8 => empty_pairs(s),
         0 => s,
         9..=255 => s,
     }

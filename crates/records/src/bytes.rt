@@ -1,6 +1,6 @@
 // Numbers in bytes, unsigned and with the low byte first. Bytes and a place go side by side: a type for the two would be made for one read.
 ghost use Rattle.std.specs.Prelude.{◌≡◌, ◌+◌, ◌≤◌, length, take, drop};
-ghost use Rattle.records.specs.Bytes.{all_zero, bytes16, bytes32, le16, le32, part, written};
+ghost use Rattle.records.specs.Bytes.{all_zero_of, bytes16, bytes32, le16, le32, part, written};
 
 // So many bytes from a place on.
 pub(crate) fn chunk<const N: usize>(bytes: &[u8], at: usize) -> [u8; N]
@@ -30,7 +30,7 @@ pub fn read32(bytes: &[u8], at: usize) -> u32
 // Whether the bytes from a place on, up to but not with another, are all zero. Without an early end, which would make the reader slower.
 pub fn all_zero(bytes: &[u8], from: usize, to: usize) -> bool
     requires { (from ≤ to) × (to ≤ length bytes.now) }
-    ensures { result ≡ all_zero (part from to bytes.now) }
+    ensures { result ≡ all_zero_of (part from to bytes.now) }
 {
     bytes[from..to].iter().fold(0, |any, byte| any | byte) == 0
 }

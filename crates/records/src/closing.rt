@@ -8,7 +8,7 @@ ghost use Rattle.calibration.specs.Outcomes.{fitted, tested};
 ghost use Rattle.records.specs.Record.{z_of};
 ghost use Rattle.records.specs.Soundness.{Fitting, SettingSound};
 ghost use Rattle.records.specs.Kinds.{line_of};
-ghost use Rattle.records.specs.Table.{annual_of, annual_refusal, calibration_of, calibration_refusal, pair_of_waiting, pass_mark, stores_fit, stores_test, test_mark};
+ghost use Rattle.records.specs.Table.{annual_of, annual_refusal_of, calibration_of, calibration_refusal_of, pair_of_waiting, pass_mark_of, stores_fit_of, stores_test_of, test_mark_of};
 ghost use Rattle.records.specs.State.{facts_of};
 
 use crate::state::{Function, State};
@@ -65,14 +65,14 @@ pub fn annual_result(st: State) -> Result<Verdicts, Refusal>
 
 // The mark of a calibration closing: 1 where passed. The two marks are bytes of a record by the paper's rule, and no conversion of the types.
 pub fn pass_mark(c: Figures) -> u8
-    ensures { result ≡ pass_mark (fitted (Ok c)) }
+    ensures { result ≡ pass_mark_of (fitted (Ok c)) }
 {
     u8::from(c.passed)
 }
 
 // The mark of an annual closing: a bit for each verdict.
 pub fn test_mark(t: Verdicts) -> u8
-    ensures { result ≡ test_mark (tested (Ok t)) }
+    ensures { result ≡ test_mark_of (tested (Ok t)) }
 {
     u8::from(t.variability) + 2 * u8::from(t.function)
 }
@@ -80,20 +80,20 @@ pub fn test_mark(t: Verdicts) -> u8
 // Whether the stored mark and figures are those of a fit.
 fn stores_fit(c: Figures, r: &[u8; 40]) -> bool
     requires { c.count ≤ 30 }
-    ensures { result ≡ stores_fit (fitted (Ok c)) r.now }
+    ensures { result ≡ stores_fit_of (fitted (Ok c)) r.now }
 {
-    ((r[1] == pass_mark(c)) & (fields::field_at(r, 12) == c.line.slope))
-        & ((fields::long_field_at(r, 16) == c.line.intercept)
-            & ((fields::field_at(r, 24) == c.top.0) & (fields::field_at(r, 28) == c.count as i32)))
+    ((r[1] == pass_mark(c)) & (fields::field(r, 12) == c.line.slope))
+        & ((fields::long_field(r, 16) == c.line.intercept)
+            & ((fields::field(r, 24) == c.top.0) & (fields::field(r, 28) == c.count as i32)))
 }
 
 // Whether the stored mark and number of pairs are those of a test.
-#[tactic(auto, unfolding(crate::specs::Table::stores_test, crate::specs::Record::mark))]
+#[tactic(auto, unfolding(crate::specs::Table::stores_test_of, crate::specs::Record::mark))]
 fn stores_test(t: Verdicts, n: u32, r: &[u8; 40]) -> bool
     requires { n ≤ 30 }
-    ensures { result ≡ stores_test (tested (Ok t)) n r.now }
+    ensures { result ≡ stores_test_of (tested (Ok t)) n r.now }
 {
-    (r[1] == test_mark(t)) & (fields::field_at(r, 8) == n as i32)
+    (r[1] == test_mark(t)) & (fields::field(r, 8) == n as i32)
 }
 
 // Row 25, where what is stored is not what was worked out.
@@ -106,19 +106,19 @@ fn stored(fits: bool) -> Result<(), Refusal>
     Ok(())
 }
 
-#[tactic(auto, unfolding(crate::specs::Table::calibration_refusal, crate::specs::Record::z_of, crate::specs::State::facts_of))]
+#[tactic(auto, unfolding(crate::specs::Table::calibration_refusal_of, crate::specs::Record::z_of, crate::specs::State::facts_of))]
 pub fn calibration_refusal(st: State, r: &[u8; 40]) -> Result<(), Refusal>
     requires { Fitting st × SettingSound st.setting × ZRanged (z_of r.now) }
-    ensures { outcome_of result ≡ calibration_refusal (facts_of st) r.now }
+    ensures { outcome_of result ≡ calibration_refusal_of (facts_of st) r.now }
 {
-    let c = calibration_result(st, fields::field_at(r, 8))?;
+    let c = calibration_result(st, fields::field(r, 8))?;
     stored(stores_fit(c, r))
 }
 
-#[tactic(auto, unfolding(crate::specs::Table::annual_refusal, crate::specs::State::facts_of))]
+#[tactic(auto, unfolding(crate::specs::Table::annual_refusal_of, crate::specs::State::facts_of))]
 pub fn annual_refusal(st: State, r: &[u8; 40]) -> Result<(), Refusal>
     requires { Fitting st × SettingSound st.setting }
-    ensures { outcome_of result ≡ annual_refusal (facts_of st) r.now }
+    ensures { outcome_of result ≡ annual_refusal_of (facts_of st) r.now }
 {
     let t = annual_result(st)?;
     stored(stores_test(t, st.pending, r))

@@ -3,7 +3,7 @@ ghost use Rattle.std.specs.Prelude.{◌≡◌, true, false};
 ghost use Rattle.refusals.specs.Rows.{outcome_of};
 ghost use Rattle.records.specs.Record.{ranged_of};
 ghost use Rattle.records.specs.Soundness.{Fitting};
-ghost use Rattle.records.specs.Table.{kind_refusal, misplaced, refusal_in};
+ghost use Rattle.records.specs.Table.{kind_refusal_of, misplaced_of, refusal_in};
 ghost use Rattle.records.specs.State.{facts_of, step_of, stepped};
 
 use crate::state::State;
@@ -11,10 +11,10 @@ use crate::{applying, bytes, checks, closing, layout, ranges};
 use refusals::Refusal;
 
 // The rows of a record's own kind.
-#[tactic(auto, unfolding(crate::specs::Table::kind_refusal, crate::specs::Record::kind))]
+#[tactic(auto, unfolding(crate::specs::Table::kind_refusal_of, crate::specs::Record::kind))]
 fn kind_refusal(st: State, r: &[u8; 40]) -> Result<(), Refusal>
-    requires { Fitting st × (misplaced (facts_of st) r.now ≡ false) × (ranged_of r.now ≡ true) }
-    ensures { outcome_of result ≡ kind_refusal (facts_of st) r.now }
+    requires { Fitting st × (misplaced_of (facts_of st) r.now ≡ false) × (ranged_of r.now ≡ true) }
+    ensures { outcome_of result ≡ kind_refusal_of (facts_of st) r.now }
 {
     // The kind stays a byte, matched with ranges: a rule of the project.
     match r[0] {

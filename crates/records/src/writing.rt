@@ -21,7 +21,7 @@ pub fn head(kind: u8, mark: u8, minute: u32) -> [u8; 40]
 
 // A signed field of four bytes.
 #[tactic(auto, using(crate::proofs::WritingLaws::signed_bytes32))]
-pub fn field(target: &mut [u8], at: usize, z: i32)
+pub fn write_field(target: &mut [u8], at: usize, z: i32)
     requires { at + 4 ≤ length target.old }
     ensures { target.new ≡ written target.old at (field_bytes z) }
 {
@@ -30,7 +30,7 @@ pub fn field(target: &mut [u8], at: usize, z: i32)
 
 // A signed field of eight bytes.
 #[tactic(auto, using(crate::proofs::WritingLaws::signed_bytes64))]
-pub fn long_field(target: &mut [u8], at: usize, z: i64)
+pub fn write_long_field(target: &mut [u8], at: usize, z: i64)
     requires { at + 8 ≤ length target.old }
     ensures { target.new ≡ written target.old at (long_bytes z) }
 {
@@ -42,10 +42,10 @@ pub fn calibration(c: Figures, minute: u32, z: i32) -> [u8; 40]
     ensures { result ≡ calibration_record (fitted (Ok c)) minute z }
 {
     let mut record = head(5, closing::pass_mark(c), minute);
-    field(&mut record, 8, z);
-    field(&mut record, 12, c.line.slope);
-    long_field(&mut record, 16, c.line.intercept);
-    field(&mut record, 24, c.top.0);
+    write_field(&mut record, 8, z);
+    write_field(&mut record, 12, c.line.slope);
+    write_long_field(&mut record, 16, c.line.intercept);
+    write_field(&mut record, 24, c.top.0);
     bytes::write32(&mut record, 28, c.count);
     record
 }

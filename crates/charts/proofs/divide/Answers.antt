@@ -9,7 +9,7 @@ use lib.Signed.{quot_z, rem_z, ◌<ℤ◌}
 use mir.Syntax.{Width, w64}
 use mir.Val.{SFits, to_z}
 use Rattle.charts.specs.Integers.{abs_sum, abs_diff, abs_sfits}
-use Rattle.charts.specs.SignedLocals.{Loc, arg, lit, on, cast_u, add, add_need, sub, quot, rem}
+use Rattle.charts.specs.SignedLocals.{Loc, arg, lit, on_both, cast_u, add, add_need, sub, quot, rem}
 use Rattle.charts.proofs.RoundingLaws.{abs_quot, abs_rem, quot_once, divided_raised, division_unique}
 use Rattle.charts.proofs.divide.Goals as goal
 use Rattle.charts.proofs.divide.Goals.{Start}
@@ -75,5 +75,5 @@ pub returns : goal.returns
 returns c =
     let n = c.args.n in
     let d = c.args.d in
-    let raised : (R c).num ≡ rem_z n d +ℤ d = on (rem (N c) (D c) (d-pos c)) (D c) (λ u v. u +ℤ v) in
+    let raised : (R c).num ≡ rem_z n d +ℤ d = on_both (rem (N c) (D c) (d-pos c)) (D c) (λ u v. u +ℤ v) in
     rw ((W c).reads, (rem (R c) (D c) (d-pos c)).reads, raised) (division_unique n d (d-pos c) (divided_raised n d (d-pos c)))

@@ -5,8 +5,8 @@ use Rattle.std.specs.Int.Signed.{rem_z, lt_z_yes}
 use lib.Dec.{lit<}
 use mir.Val.{to_z, of_z}
 use Rattle.charts.specs.Integers.{abs_ud, one_zero, ud_le, le_ud, lt_ud, abs_sfits}
-use Rattle.charts.specs.SignedLocals.{Loc, arg, lit, on, add, add_need, rem}
-use Rattle.charts.specs.Rounding.{odd, rounds_up, near_of}
+use Rattle.charts.specs.SignedLocals.{Loc, arg, lit, on_both, add, add_need, rem}
+use Rattle.charts.specs.Rounding.{odd, rounds_up_of, near_of}
 use Rattle.charts.specs.Division.{Divided, division_of}
 use Rattle.charts.specs.declared.Division.{Division}
 use Rattle.charts.proofs.CastLaws.{unsigned}
@@ -49,12 +49,12 @@ module _ (edition : ℕ) {n d whole rest : ℤ} (Q : (nat_abs n ≤ 2 ^ 62) × (
 
     odd-is : not (eqb (rem W Two two_pos).bits 0) ≡ odd whole
     odd-is =
-        ap (λ (z : ℤ). not (eqb (of_z w64 z) 0)) (on W Two rem_z)
+        ap (λ (z : ℤ). not (eqb (of_z w64 z) 0)) (on_both W Two rem_z)
         ∙ bit (rem_z whole (pos 2)) (omega (arith, abs_rem whole (pos 2) two_pos))
         ∙ odd_signed whole
 
-    module _ {r m : ℕ} {t : Bool} (R : r ≡ of_z w64 (to_z w64 (of_z w64 rest))) (M : m ≡ of_z w64 (to_z w64 (of_z w64 d))) (T : t ≡ rounds_up edition (not (eqb (rem W Two two_pos).bits 0)) r m) where
-      told : t ≡ rounds_up edition (odd whole) (nat_abs rest) (nat_abs d)
+    module _ {r m : ℕ} {t : Bool} (R : r ≡ of_z w64 (to_z w64 (of_z w64 rest))) (M : m ≡ of_z w64 (to_z w64 (of_z w64 d))) (T : t ≡ rounds_up_of edition (not (eqb (rem W Two two_pos).bits 0)) r m) where
+      told : t ≡ rounds_up_of edition (odd whole) (nat_abs rest) (nat_abs d)
       told = T ∙ rw (odd-is, rest-is R, divisor-is M)
 
       up : t ≡ true → whole +ℤ pos 1 ≡ near_of edition n d

@@ -2,12 +2,12 @@
 use Rattle.std.proofs.Common.{◌≡◌, sym, subst, ◌∙◌, not, ℕ, ◌%◌, ◌/◌, ◌<◌, arith, T, div-add-mod', mod-lt, mul-le-mul_left}
 use Rattle.std.specs.Prelude.{Bool, eqb, pos}
 use Rattle.charts.specs.Integers.{ud_lt}
-use Rattle.charts.specs.Rounding.{odd, rounds_up}
+use Rattle.charts.specs.Rounding.{odd, rounds_up_of}
 use Rattle.charts.proofs.RoundingLaws.{divided_unsigned, odd_unsigned, up_over, near_up, near_down}
 use Rattle.charts.proofs.near_unsigned.Goals as goal
 
 -- the test of a half, of the quotient and the rest
-told : (edition n d : ℕ) {t : Bool} → t ≡ rounds_up edition (not (eqb (n / d % 2) 0)) (n % d) d → t ≡ rounds_up edition (odd (pos (n / d))) (n % d) d
+told : (edition n d : ℕ) {t : Bool} → t ≡ rounds_up_of edition (not (eqb (n / d % 2) 0)) (n % d) d → t ≡ rounds_up_of edition (odd (pos (n / d))) (n % d) d
 told edition n d e = rw (sym (odd_unsigned (n / d))) e
 
 pub overflow_add-result : goal.overflow_add-result

@@ -1,4 +1,4 @@
--- `charts::rounds_up` meets its contract: twice the rest against the divisor, which the code tests without the double.
+-- `charts::rounds_up_of` meets its contract: twice the rest against the divisor, which the code tests without the double.
 use borrow.Author.Tests.{eq-eqb, ne_eqb, eqb-true, eqb-false}
 use mathlib.Core.Path.{◌≡◌, refl, sym, ◌∙◌}
 use mathlib.Core.Bool.{Bool, true, false}
@@ -6,7 +6,7 @@ use native.Mathlib.Omega.{arith}
 use Prim.Native.Nat.{ℕ, ◌*◌, ◌-◌, ◌<◌}
 use lib.Dec.{eqb, ltb}
 use Rattle.charts.specs.Tests.{answers_lt, answers_as, same_answer}
-use Rattle.charts.specs.Rounding.{rounds_up}
+use Rattle.charts.specs.Rounding.{rounds_up_of}
 use Rattle.charts.proofs.rounds_up.Goals as goal
 
 over-half : (r d : ℕ) → r < d → ltb (d - r) r ≡ ltb d (2 * r)
@@ -20,5 +20,5 @@ at-half r d h = go (eqb d (2 * r)) refl
     go false e = let n = eqb-false d (2 * r) e in ne_eqb (d - r) r (λ k. n (omega arith)) ∙ sym e
 
 pub returns : goal.returns
-unfolding rounds_up
+unfolding rounds_up_of
 returns c = let a = c.args in rw (over-half a.r a.d c.requires, at-half a.r a.d c.requires)

@@ -1,7 +1,7 @@
 -- `calibration::fitting::fit` meets its contract.
 use Rattle.std.proofs.Common.{sym, ap, ◌∙◌, length, to_z-of_z, w32}
 use Rattle.std.specs.Prelude.{ℤ}
-use Rattle.calibration.specs.Calibration.{sums_of, fit_from}
+use Rattle.calibration.specs.Calibration.{sums_of, fit_from_of}
 use Rattle.calibration.proofs.SumLaws.{sums_ranged}
 use Rattle.calibration.proofs.VerdictLaws.{count_unfit, count_fit, count_above}
 use Rattle.calibration.proofs.SampleLaws.{all_tested}
@@ -26,6 +26,6 @@ returns c =
     let e = c.args.b.edition in
     let q = c.args.b.requirements in
     c.fit_from.ensures
-    ∙ ap (λ (z : ℤ). fit_from e q z ps c.sums.result) (to_z-of_z {w = w32} c.ranges.z)
-    ∙ ap (fit_from e q c.args.z ps) c.sums.ensures
+    ∙ ap (λ (z : ℤ). fit_from_of e q z ps c.sums.result) (to_z-of_z {w = w32} c.ranges.z)
+    ∙ ap (fit_from_of e q c.args.z ps) c.sums.ensures
     ∙ sym (count_fit e q c.args.z ps (sym c.count_fits.ensures ∙ c.if-not-count_fits.false))

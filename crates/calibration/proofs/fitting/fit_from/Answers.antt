@@ -1,4 +1,4 @@
--- `calibration::fitting::fit_from` meets its contract.
+-- `calibration::fitting::fit_from_of` meets its contract.
 use Rattle.std.proofs.Common.{◌≡◌, sym, ap, subst, ◌∙◌, ◌<◌, T, true, false, arith, to_z-of_z, w32, w64, Some, None, List}
 use Rattle.std.specs.Prelude.{Bool, ℤ, pos, nat_abs, ◌≤ℤ◌, ◌<ℤ◌, ◌≤◌, Option}
 use Rattle.std.specs.Int.Signed.{mag, le_z}
@@ -8,7 +8,7 @@ use Rattle.charts.specs.SignedLocals.{Loc, arg, lit, le_true, le_false}
 use Rattle.calibration.specs.Pairs.{Between, ZRanged, between_answers}
 use Rattle.calibration.proofs.RangeLaws.{between_fits}
 use Rattle.calibration.specs.Outcomes.{refused_fit}
-use Rattle.calibration.specs.Calibration.{LineRanged, flat_of, rise_of, divisor_of, intercept_of, slope_ranged_of, line_fits, fit_from}
+use Rattle.calibration.specs.Calibration.{LineRanged, flat_of, rise_of, divisor_of, intercept_of, slope_ranged_of, line_fits_of, fit_from_of}
 use Rattle.calibration.specs.InCode.{SumsRanged, slope_code}
 use Rattle.calibration.proofs.SlopeLaws.{slope_refused, slope_taken}
 use Rattle.calibration.proofs.SizeLaws.{rise_bound, divisor_bound, line_ranged}
@@ -39,7 +39,7 @@ module _ (b : Basis) (z : ℤ) (ps : List Pair) (u : Sums) (Q : ZRanged z × Sum
     abbrev Divisor : Loc w64
     Divisor = arg d (record { sfits = V })
 
-    refused : le_z (to_z w64 (of_z w64 d)) (pos 0) ≡ true → refused_fit 22 ≡ fit_from b.edition b.requirements z ps u
+    refused : le_z (to_z w64 (of_z w64 d)) (pos 0) ≡ true → refused_fit 22 ≡ fit_from_of b.edition b.requirements z ps u
     refused t = sym (no_divisor b.edition b.requirements z ps u (subst (λ (x : ℤ). x ≤ℤ pos 0) divisor-is (le_true Divisor (lit 0 (lit< tt)) t)))
 
     module _ {r : ℤ} (A : le_z (to_z w64 (of_z w64 d)) (pos 0) ≡ false) (R : r ≡ rise_of f u) (W : mag r < 9223372036854775808) where
@@ -56,7 +56,7 @@ module _ (b : Basis) (z : ℤ) (ps : List Pair) (u : Sums) (Q : ZRanged z × Sum
         slope-is : s ≡ slope_code b.edition (rise_of flat u) divisor
         slope-is = S ∙ rw (rise-is, Divisor.reads, divisor-is)
 
-        outside : s ≡ None → refused_fit 23 ≡ fit_from b.edition b.requirements z ps u
+        outside : s ≡ None → refused_fit 23 ≡ fit_from_of b.edition b.requirements z ps u
         outside e = sym (no_slope b.edition b.requirements z ps u above (slope_refused b.edition (rise_of flat u) divisor (sym slope-is ∙ e)))
 
         -- a slope that stands is B, in its range
@@ -77,7 +77,7 @@ module _ (b : Basis) (z : ℤ) (ps : List Pair) (u : Sums) (Q : ZRanged z × Sum
             line-ranged : LineRanged (record { slope = to_z w32 (of_z w32 m); intercept = to_z w64 (of_z w64 a) })
             line-ranged = rw (slope-kept, intercept-is) (line_ranged b.edition Q.1 Q.2 Q.0 ranged flat)
 
-            fits : line_fits b.edition b.requirements ps (record { slope = to_z w32 (of_z w32 m); intercept = to_z w64 (of_z w64 a) }) ≡ fit_from b.edition b.requirements z ps u
+            fits : line_fits_of b.edition b.requirements ps (record { slope = to_z w32 (of_z w32 m); intercept = to_z w64 (of_z w64 a) }) ≡ fit_from_of b.edition b.requirements z ps u
             fits = rw (slope-kept, intercept-is) (sym (a_line b.edition b.requirements z ps u above kept))
 
 pub returns-then-d-le0 : goal.returns-then-d-le0

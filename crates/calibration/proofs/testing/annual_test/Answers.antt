@@ -4,7 +4,7 @@ use Rattle.std.specs.Prelude.{ℤ, pos, nat_abs}
 use mir.Val.{to_z}
 use Rattle.charts.specs.Integers.{abs_sfits}
 use Rattle.charts.specs.SignedLocals.{Loc, arg, cast_u}
-use Rattle.calibration.specs.Annual.{annual_count_fits, function_holds_of}
+use Rattle.calibration.specs.Annual.{annual_count_fits_of, function_holds_of}
 use Rattle.calibration.specs.Calibration.{some_beyond, deviations_of, q_of, residuals_of}
 use Rattle.calibration.proofs.VerdictLaws.{Dispersed, residuals_dispersed, annual_count, test_unfit, test_beyond, test_stands}
 use Rattle.calibration.specs.declared.pairs.Basis.{Basis}
@@ -16,7 +16,7 @@ use Rattle.calibration.proofs.RangeLaws.{sigma_taken, taken_small}
 use Rattle.calibration.proofs.testing.annual_test.Goals as goal
 
 -- ---- the count, the residuals and their sum
-module _ (b : Basis) (l : Line) (ps : List Pair) (F : annual_count_fits (length ps) ≡ true) where
+module _ (b : Basis) (l : Line) (ps : List Pair) (F : annual_count_fits_of (length ps) ≡ true) where
   counted : (5 ≤ length ps) × (length ps ≤ 8)
   counted = annual_count (length ps) F
 

@@ -5,7 +5,7 @@ use Rattle.std.specs.Int.{abs_diff}
 use mir.Val.{to_z, of_z}
 use Rattle.charts.specs.Charts.{applied_of, rising_term, falling_term, precision_term}
 use Rattle.charts.specs.CodeLaws.{rising_code, falling_code, precision_code}
-use Rattle.charts.specs.ChartSoundness.{DifferenceRanged, ChartSound, Within, most_rising, most_falling}
+use Rattle.charts.specs.ChartSoundness.{DifferenceRanged, ChartSound, SumWithin, most_rising, most_falling}
 use Rattle.charts.specs.ChartSoundnessLaws.{added_within, rising_most, falling_most}
 use Rattle.charts.specs.Sums.{added}
 use Rattle.charts.specs.declared.Chart.{Chart}
@@ -35,10 +35,10 @@ module _ (self : Chart) (s x : ℕ) (d : ℤ) (X : pos x ≡ d +ℤ pos 800000) 
       ∙ ap (added self.precision) (sym (precision_code s 800000 x d X y self.last Y))
 
   -- and they stay within their bounds, as the adjustments ask
-  rising-within : ChartSound self → DifferenceRanged d → r ≡ added self.rising (rising_term s d) → Within most_rising (self.readings + 1) r
+  rising-within : ChartSound self → DifferenceRanged d → r ≡ added self.rising (rising_term s d) → SumWithin most_rising (self.readings + 1) r
   rising-within S D e = rw e (added_within most_rising self.readings self.rising (rising_term s d) (rising_most s D) S.rising)
 
-  falling-within : ChartSound self → DifferenceRanged d → r ≡ added self.falling (falling_term s d) → Within most_falling (self.readings + 1) r
+  falling-within : ChartSound self → DifferenceRanged d → r ≡ added self.falling (falling_term s d) → SumWithin most_falling (self.readings + 1) r
   falling-within S D e = rw e (added_within most_falling self.readings self.falling (falling_term s d) (falling_most s D) S.falling)
 
 pub overflow_mul-step-2 : goal.overflow_mul-step-2

@@ -12,7 +12,7 @@ use Rattle.records.specs.State.{facts_of}
 use Rattle.records.specs.Soundness.{SettingSound, count_limit}
 use Rattle.records.specs.Table.{calibration_of}
 use Rattle.records.specs.Writing.{annual_record, calibration_record}
-use Rattle.file.specs.Closings.{first_rows}
+use Rattle.file.specs.Closings.{first_rows_of}
 use Rattle.file.proofs.ClosingLaws as L
 use Rattle.file.proofs.OutcomeLaws.{some_row}
 use Rattle.file.proofs.making.close.Goals as goal
@@ -23,7 +23,7 @@ reads : (c : Start) → to_z w32 (of_z w32 c.args.closing.z) ≡ c.args.closing.
 reads c = to_z-of_z {w = w32} (search rules)
 
 -- past the first rows
-passed : (c : In_ok-first_rows) → let a = c.args.closing in first_rows (facts_of c.args.st) a.kind a.minute a.z ≡ 0
+passed : (c : In_ok-first_rows) → let a = c.args.closing in first_rows_of (facts_of c.args.st) a.kind a.minute a.z ≡ 0
 passed c = sym c.in_ok-first_rows.ensures
 
 setting : (c : In_ok-first_rows) → SettingSound c.args.st.setting
@@ -45,7 +45,7 @@ returns-in_err-first_rows-clause-row c =
     let a = c.args.closing in
     let r = c.in_err-first_rows in
     let p = err_from_is_err_and c.from_residual.result c.from_residual.ensures.1 in
-    rw (p.1, p.2) (r.ensures ∙ sym (L.first_refuses (facts_of c.args.st) a.kind a.minute a.z (λ z. some_row r.field-0.0 (r.ensures ∙ z))))
+    rw (p.1, p.2) (r.ensures ∙ sym (L.first_refuses (facts_of c.args.st) a.kind a.minute a.z (λ z. some_row r.write_field-0.0 (r.ensures ∙ z))))
 
 pub calibration_result-requires : goal.calibration_result-requires
 calibration_result-requires c =

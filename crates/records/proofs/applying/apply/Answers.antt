@@ -5,7 +5,7 @@ use lib.ListN.{length, length-take}
 use Rattle.records.specs.Record.{Record, kind, minute, mark_limit}
 use Rattle.records.specs.RecordLaws.{FormedFields, formed_fields, setting_ranged_lem, reading_ranged_lem, waiting_ranged_lem, value_ranged_lem}
 use Rattle.records.specs.Kinds.{sets}
-use Rattle.records.specs.Table.{reading_refusal}
+use Rattle.records.specs.Table.{reading_refusal_of}
 use Rattle.records.proofs.TableLaws.{Accepted, accepted, reading_passed, pair_passed, PairPasses, pair_passes}
 use Rattle.records.specs.State.{facts_of}
 use Rattle.records.specs.StateParts.{with_reading, with_reset, with_calibration, with_annual, emptied, judged_of}
@@ -39,31 +39,31 @@ pair_fits j k = pair_passes (facts_of (state_of j)) (recordOf j) (pair_passed (f
 record-formed : (c : After-judged-s) → FormedFields (recordOf c)
 record-formed c = formed_fields (recordOf c) (passed c).formed
 
-pub setting_of-requires : goal.setting_of-requires
+pub setting_of-requires : goal.setting-requires
 unfolding kind
 setting_of-requires c =
-    let j = (goal.at.setting_of-requires c).After-judged-s in
+    let j = (goal.at.setting-requires c).After-judged-s in
     (setting_ranged_lem (recordOf j) (passed j).ranged c.in-1.is)
 
 pub take_reading-requires : goal.take_reading-requires
-unfolding kind judged_of facts_of reading_refusal
+unfolding kind judged_of facts_of reading_refusal_of
 take_reading-requires c =
     let j = (goal.at.take_reading-requires c).After-judged-s in
     let A = passed j in
     rw (judged-is j)
     (reading_ranged_lem (recordOf j) A.ranged c.in-2.is, reading_passed (facts_of (state_of j)) (recordOf j) A c.in-2.is, c.requires.0.zero, c.requires.0.span)
 
-pub waiting_of-requires : goal.waiting_of-requires
+pub waiting_of-requires : goal.waiting-requires
 unfolding kind
 waiting_of-requires c =
-    let j = (goal.at.waiting_of-requires c).After-judged-s in
+    let j = (goal.at.waiting-requires c).After-judged-s in
     (waiting_ranged_lem (recordOf j) (passed j).ranged c.in-4.is, (pair_fits j c.in-4.is).starts)
 
-pub with_pair-requires : goal.with_pair-requires
+pub with_pair-requires : goal.add_pair-requires
 unfolding judged_of facts_of kind
 with_pair-requires c =
-    let j = (goal.at.with_pair-requires c).After-judged-s in
-    rw (judged-is j) (omega (arith, (pair_fits j c.in-4.is).room, length-take (state_of j).pending (state_of j).pairs, places (goal.at.with_pair-requires c).Start))
+    let j = (goal.at.add_pair-requires c).After-judged-s in
+    rw (judged-is j) (omega (arith, (pair_fits j c.in-4.is).room, length-take (state_of j).pending (state_of j).pairs, places (goal.at.add_pair-requires c).Start))
 
 pub count_value-requires : goal.count_value-requires
 unfolding kind sets judged_of
@@ -80,7 +80,7 @@ pub returns-in-1 : goal.returns-in-1
 unfolding kind
 returns-in-1 c =
     let j = (goal.at.returns-in-1 c).After-judged-s in
-    rw (judged-is j, c.setting_of.ensures) (applied_setting (state_of j) (recordOf j) c.in-1.is)
+    rw (judged-is j, c.setting.ensures) (applied_setting (state_of j) (recordOf j) c.in-1.is)
 
 pub returns-in-2 : goal.returns-in-2
 unfolding kind mark_limit
@@ -94,13 +94,13 @@ unfolding kind mark_limit
 returns-in-3 c =
     let j = (goal.at.returns-in-3 c).After-judged-s in
     let k = c.in-3.is in
-    c.with_reset.ensures ∙ ap (λ (s : State). with_reset s (recordOf j)) (judged-is j) ∙ applied_reset (state_of j) (recordOf j) k (rw k at (record-formed j).mark)
+    c.reset_chart.ensures ∙ ap (λ (s : State). with_reset s (recordOf j)) (judged-is j) ∙ applied_reset (state_of j) (recordOf j) k (rw k at (record-formed j).mark)
 
 pub returns-in-4 : goal.returns-in-4
 unfolding kind
 returns-in-4 c =
     let j = (goal.at.returns-in-4 c).After-judged-s in
-    c.with_pair.ensures ∙ rw (judged-is j, c.waiting_of.ensures) (applied_pair (state_of j) (recordOf j) c.in-4.is)
+    c.add_pair.ensures ∙ rw (judged-is j, c.waiting.ensures) (applied_pair (state_of j) (recordOf j) c.in-4.is)
 
 pub returns-in-5 : goal.returns-in-5
 unfolding kind
@@ -130,7 +130,7 @@ pub returns-in-8 : goal.returns-in-8
 unfolding kind
 returns-in-8 c =
     let j = (goal.at.returns-in-8 c).After-judged-s in
-    c.emptied.ensures ∙ ap emptied (judged-is j) ∙ applied_drop (state_of j) (recordOf j) c.in-8.is
+    c.empty_pairs.ensures ∙ ap emptied (judged-is j) ∙ applied_drop (state_of j) (recordOf j) c.in-8.is
 
 pub returns-in-0 : goal.returns-in-0
 unfolding kind

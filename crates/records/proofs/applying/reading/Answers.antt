@@ -2,7 +2,7 @@
 use mathlib.Core.Path.{ap, ◌∙◌}
 use Rattle.records.specs.Record.{kind, minute, mark_limit}
 use Rattle.records.specs.RecordLaws.{formed_fields, reading_ranged_lem}
-use Rattle.records.specs.Table.{reading_refusal}
+use Rattle.records.specs.Table.{reading_refusal_of}
 use Rattle.records.specs.State.{facts_of}
 use Rattle.records.specs.StateParts.{with_reading}
 use Rattle.records.specs.declared.state.State.{State}
@@ -12,7 +12,7 @@ use Rattle.records.proofs.InPlaceLaws.{in_place}
 use Rattle.records.proofs.applying.reading.Goals as goal
 
 pub take_reading-requires : goal.take_reading-requires
-unfolding kind facts_of reading_refusal
+unfolding kind facts_of reading_refusal_of
 take_reading-requires c =
     let P = c.requires in
     let r = c.args.r.now in

@@ -13,10 +13,10 @@ use Rattle.records.specs.State.{chart_of}
 use Rattle.records.specs.StateParts.{with_reading}
 use Rattle.records.proofs.ApplyLaws.{chart_room, chart_sound}
 use Rattle.records.proofs.applying.take_reading.Goals as goal
-use Rattle.records.proofs.applying.take_reading.Goals.{After-difference_of-d}
+use Rattle.records.proofs.applying.take_reading.Goals.{After-difference-d}
 
-back : (c : After-difference_of-d) → to_z w32 (of_z w32 c.difference_of-d.result) ≡ difference_of c.args.r.now
-back c = to_z-of_z {w = w32} (record { sfits = c.difference_of-d.type_inv }) ∙ c.difference_of-d.ensures
+back : (c : After-difference-d) → to_z w32 (of_z w32 c.difference-d.result) ≡ difference_of c.args.r.now
+back c = to_z-of_z {w = w32} (record { sfits = c.difference-d.type_inv }) ∙ c.difference-d.ensures
 
 pub change_chart-requires : goal.change_chart-requires
 unfolding mark
@@ -25,11 +25,11 @@ change_chart-requires c =
     let r = c.args.r.now in
     let o : (chart_of (point_of (mark r)) st).readings < 100000 = chart_room st r c.requires.1 in
     let s : ChartSound (chart_of (point_of (mark r)) st) = chart_sound st r c.requires.2 c.requires.3 in
-    let d : DifferenceRanged (to_z w32 (of_z w32 c.difference_of-d.result)) = rw (back (goal.at.change_chart-requires c).After-difference_of-d) (reading_fields r c.requires.0).difference in
+    let d : DifferenceRanged (to_z w32 (of_z w32 c.difference-d.result)) = rw (back (goal.at.change_chart-requires c).After-difference-d) (reading_fields r c.requires.0).difference in
     search rules
 
 pub returns : goal.returns
 unfolding mark with_reading
 returns c =
-    let b = back (goal.at.returns c).After-difference_of-d in
+    let b = back (goal.at.returns c).After-difference-d in
     search rules

@@ -3,9 +3,9 @@ use Rattle.std.proofs.Common.{◌≡◌, refl, sym, ap, subst, ◌∙◌, Bool, 
 use mir.Facts.{to_z-of_z}
 use Rattle.std.specs.Prelude.{if◌then◌else◌}
 use Rattle.calibration.specs.Pairs.{AllRanged}
-use Rattle.calibration.specs.Calibration.{count_fits, fit_of, refused_fit}
+use Rattle.calibration.specs.Calibration.{count_fits_of, fit_of, refused_fit}
 use Rattle.calibration.proofs.VerdictLaws.{count_above}
-use Rattle.records.specs.Table.{calibration_of, days_fit, pair_of_waiting}
+use Rattle.records.specs.Table.{calibration_of, days_fit_of, pair_of_waiting}
 use Rattle.records.proofs.SoundnessLaws.{pairs_ranged}
 use Rattle.records.specs.State.{facts_of}
 use Rattle.records.specs.declared.state.Waiting.{Waiting}
@@ -25,13 +25,13 @@ module _ (s : Start) where
   z-back = to_z-of_z {w = w32} s.ranges.z
 
   -- the definition by its two tests
-  whole : {few fit : Bool} → count_fits s.args.st.pending ≡ few → days_fit ws ≡ fit
+  whole : {few fit : Bool} → count_fits_of s.args.st.pending ≡ few → days_fit_of ws ≡ fit
       → calibration_of (facts_of s.args.st) s.args.z
       ≡ (if not few then refused_fit 20 else (if not fit then refused_fit 21 else fit_of s.args.st.edition s.args.st.setting.requirements s.args.z (map pair_of_waiting ws)))
   unfolding calibration_of facts_of
   whole e f = rw (counted, e, f)
 
-fits : (c : Else-not-count_fits) → count_fits c.args.st.pending ≡ true
+fits : (c : Else-not-count_fits) → count_fits_of c.args.st.pending ≡ true
 fits c = sym c.count_fits.ensures ∙ c.if-not-count_fits.false
 
 pub returns-then-not-count_fits : goal.returns-then-not-count_fits

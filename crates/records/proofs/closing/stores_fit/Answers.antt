@@ -1,4 +1,4 @@
--- `closing::stores_fit` meets its contract.
+-- `closing::stores_fit_of` meets its contract.
 use mathlib.Core.Path.{◌≡◌}
 use mathlib.Core.Bool.{Bool, ◌&&◌}
 use Prim.Native.Nat.{ℕ}
@@ -10,17 +10,17 @@ use mir.Val.{SFits}
 use borrow.Author.Rules.{rules}
 use Rattle.std.specs.Prelude.{Ok}
 use Rattle.calibration.specs.Outcomes.{Fitted, fitted}
-use Rattle.records.specs.Record.{Record, mark, field, long_field}
-use Rattle.records.specs.Table.{sameℤ, stores_fit, pass_mark}
+use Rattle.records.specs.Record.{Record, mark, field_of, long_field_of}
+use Rattle.records.specs.Table.{sameℤ, stores_fit_of, pass_mark_of}
 use Rattle.records.proofs.SignedLaws.{same_bits}
 use Rattle.records.proofs.closing.stores_fit.Goals as goal
 
 -- the definition by what the code compares
 whole : (c : Fitted) (r : Record) {m : ℕ} {slope intercept top count : Bool}
-    → m ≡ pass_mark c → slope ≡ sameℤ (field r 12) c.line.slope → intercept ≡ sameℤ (long_field r 16) c.line.intercept
-    → top ≡ sameℤ (field r 24) c.top.0 → count ≡ sameℤ (field r 28) (pos c.count)
-    → ((eqb (mark r) m && slope) && (intercept && (top && count))) ≡ stores_fit c r
-unfolding stores_fit
+    → m ≡ pass_mark_of c → slope ≡ sameℤ (field_of r 12) c.line.slope → intercept ≡ sameℤ (long_field_of r 16) c.line.intercept
+    → top ≡ sameℤ (field_of r 24) c.top.0 → count ≡ sameℤ (field_of r 28) (pos c.count)
+    → ((eqb (mark r) m && slope) && (intercept && (top && count))) ≡ stores_fit_of c r
+unfolding stores_fit_of
 whole c r e f g h k = rw (e, f, g, h, k)
 
 pub returns : goal.returns
@@ -31,7 +31,7 @@ returns c =
     let intercept : SFits w64 a.c.line.intercept = search rules in
     let top : SFits w32 a.c.top.0 = search rules in
     whole (fitted (Ok a.c)) a.r.now c.pass_mark.ensures
-    (same_bits w32 c.field_at.type_inv c.field_at.ensures slope)
-    (same_bits w64 c.long_field_at.type_inv c.long_field_at.ensures intercept)
-    (same_bits w32 c.field_at-2.type_inv c.field_at-2.ensures top)
-    (same_bits w32 c.field_at-3.type_inv c.field_at-3.ensures (record { sfits = omega arith }))
+    (same_bits w32 c.write_field.type_inv c.write_field.ensures slope)
+    (same_bits w64 c.write_long_field.type_inv c.write_long_field.ensures intercept)
+    (same_bits w32 c.write_field-2.type_inv c.write_field-2.ensures top)
+    (same_bits w32 c.write_field-3.type_inv c.write_field-3.ensures (record { sfits = omega arith }))

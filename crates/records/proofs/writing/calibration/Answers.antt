@@ -12,4 +12,4 @@ returns c =
     let intercept : SFits w64 figures.line.intercept = search rules in
     let top : SFits w32 figures.top.0 = search rules in
     c.write32.ensures
-    ∙ rw (c.field-3.ensures, c.long_field.ensures, c.field-2.ensures, c.field.ensures, c.head-record.ensures, c.pass_mark.ensures, to_z-of_z {w = w32} c.ranges.z, to_z-of_z {w = w32} slope, to_z-of_z {w = w64} intercept, to_z-of_z {w = w32} top) (calibration_stored _ c.args.minute c.args.z)
+    ∙ rw (c.write_field-3.ensures, c.write_long_field.ensures, c.write_field-2.ensures, c.write_field.ensures, c.head-record.ensures, c.pass_mark.ensures, to_z-of_z {w = w32} c.ranges.z, to_z-of_z {w = w32} slope, to_z-of_z {w = w64} intercept, to_z-of_z {w = w32} top) (calibration_stored _ c.args.minute c.args.z)

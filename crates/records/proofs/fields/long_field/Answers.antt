@@ -2,13 +2,13 @@
 use Rattle.std.proofs.Common.{List, ℕ, ◌+◌, ◌*◌, ◌∙◌, ap}
 use Rattle.std.specs.Int.{w64, cast_signed, from_le_bytes}
 use Rattle.records.specs.Bytes.{le32}
-use Rattle.records.specs.Record.{long_field}
+use Rattle.records.specs.Record.{long_field_of}
 use Rattle.records.specs.LittleEndian.{from_le_bytes_64, cast_signed_64}
 use Rattle.records.proofs.SignedLaws.{given}
-use Rattle.records.proofs.fields.long_field_at.Goals as goal
+use Rattle.records.proofs.fields.write_long_field.Goals as goal
 
 pub returns : goal.returns
-unfolding long_field
+unfolding long_field_of
 returns c =
     let a = c.args in
     given w64 c.from_le_bytes.type_inv

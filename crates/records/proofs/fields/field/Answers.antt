@@ -2,13 +2,13 @@
 use Rattle.std.proofs.Common.{List, ℕ, ◌∙◌, ap}
 use Rattle.std.specs.Int.{w32, cast_signed, from_le_bytes}
 use Rattle.records.specs.Bytes.{le32}
-use Rattle.records.specs.Record.{field}
+use Rattle.records.specs.Record.{field_of}
 use Rattle.records.specs.LittleEndian.{from_le_bytes_32, cast_signed_32}
 use Rattle.records.proofs.SignedLaws.{given}
-use Rattle.records.proofs.fields.field_at.Goals as goal
+use Rattle.records.proofs.fields.write_field.Goals as goal
 
 pub returns : goal.returns
-unfolding field
+unfolding field_of
 returns c =
     let a = c.args in
     given w32 c.from_le_bytes.type_inv
