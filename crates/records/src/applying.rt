@@ -147,7 +147,7 @@ fn fail(st: State, m: u32) -> State
 {
     State {
         demand: st.demand.or(Some(m)),
-        ..emptied(st)
+        ..empty_pairs(st)
     }
 }
 
@@ -160,7 +160,7 @@ fn put_in_force(st: State, f: Function) -> State
         tally: Tally::default(),
         over: 0,
         demand: None,
-        ..emptied(st)
+        ..empty_pairs(st)
     }
 }
 
@@ -171,7 +171,7 @@ fn start_period(st: State) -> State
     State {
         tally: Tally::default(),
         over: 0,
-        ..emptied(st)
+        ..empty_pairs(st)
     }
 }
 
