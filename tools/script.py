@@ -4,13 +4,12 @@ What each command does is told in the head of the script itself, crates/cases/st
 it are none of the papers': row 7, for a state that no list of calls leaves (`left_by_calls`), and
 the word `outside`, for numbers that a call is not made for.
 """
-from model import (ANNUAL_COUNTS, BLOCK, CALIBRATION, CONDITIONS, COUNTS, HEAD, HIGHEST_SLOPE,
-                   KINDS, LAST_NUMBER, NO_FIGURES, NO_PLACE, PAIR, PLACES, READINGS, RECORD,
-                   SETTING, Basis, Chart, Conditions, Function, Pair, Standing, alarms_of,
-                   annual_mark, applied, calibrated, calibrates_as, chart_read, check_by_bits,
-                   formed_block, in_standard, lent_list, made_closing, near, record_bytes,
-                   record_of, record_row, report_line, s_of, sealed, six_alarms, taken_run,
-                   usable)
+from model import (ANNUAL_COUNTS, BLOCK, CALIBRATION, CONDITIONS, COUNTS, HIGHEST_SLOPE, KINDS,
+                   LAST_NUMBER, NO_FIGURES, NO_PLACE, PAIR, PLACES, READINGS, RECORD, SETTING,
+                   Basis, Chart, Conditions, Function, Pair, Standing, alarms_of, annual_mark,
+                   applied, calibrated, calibrates_as, chart_read, check_by_bits, formed_block,
+                   in_standard, lent_list, made_closing, near, record_bytes, record_of,
+                   record_row, report_line, s_of, sealed, six_alarms, taken_run, usable)
 
 OLD_BYTE, ROOM = 0xA5, 600      # the target has room for so many bytes, each of them this one
 LISTED = 13                     # the list has room for so many records
@@ -281,7 +280,7 @@ def record(d, kind, mark, minute, *fields):
     if kind in KINDS:
         d.record = record_bytes(kind, mark, minute, *numbers)
     else:
-        d.record = HEAD.pack(kind, mark, 0, minute).ljust(RECORD, b'\0')
+        d.record = minute_later(bytes([kind, mark]).ljust(RECORD, b'\0'), minute)
 
 
 def set_byte(d, i, v):
