@@ -45,7 +45,7 @@ returns-in_err-first_rows-clause-row c =
     let a = c.args.closing in
     let r = c.in_err-first_rows in
     let p = err_from_is_err_and c.from_residual.result c.from_residual.ensures.1 in
-    rw (p.1, p.2) (r.ensures ∙ sym (L.first_refuses (facts_of c.args.st) a.kind a.minute a.z (λ z. some_row r.write_field-0.0 (r.ensures ∙ z))))
+    rw (p.1, p.2) (r.ensures ∙ sym (L.first_refuses (facts_of c.args.st) a.kind a.minute a.z (λ z. some_row r.field-0.0 (r.ensures ∙ z))))
 
 pub calibration_result-requires : goal.calibration_result-requires
 calibration_result-requires c =

@@ -66,8 +66,8 @@ returns-in_err-told c =
     let g = goal.at.returns-in_err-told c in
     let r = c.in_err-told in
     let p = err_from_is_err_and c.from_residual.result c.from_residual.ensures.1 in
-    L.row_told _ _ _ _ _ _ _ _ _ p.1 r.write_field-0.0 p.2
-    (L.told_stops _ _ _ _ _ _ _ c.if-target-ne40.false (fits g.Else-not-records_fit) (closes g.Else-not-closes) (sound g.Else-not-ready) _ r.ensures (some_row r.write_field-0.0))
+    L.row_told _ _ _ _ _ _ _ _ _ p.1 r.field-0.0 p.2
+    (L.told_stops _ _ _ _ _ _ _ c.if-target-ne40.false (fits g.Else-not-records_fit) (closes g.Else-not-closes) (sound g.Else-not-ready) _ r.ensures (some_row r.field-0.0))
 
 pub run_records-requires : goal.run_records-requires
 run_records-requires c =
@@ -83,7 +83,7 @@ returns-in_err-before c =
     let index = r.ensures.index ∙ ap (λ (x : Appended). x.index) h in
     let p = err_from_is_err_and c.from_residual-in_err-before.result c.from_residual-in_err-before.ensures.1 in
     L.record_told _ _ _ _ _ _ _ _ _ (p.1 ∙ ap Err p.2) _ _ row index r.ensures.place
-    (L.record_stops _ _ _ _ _ _ _ c.if-target-ne40.false (fits g.Else-not-records_fit) (closes g.Else-not-closes) (sound g.Else-not-ready) (sym c.in_ok-told.ensures) (λ z. some_row r.write_field-0.0.row (row ∙ z)))
+    (L.record_stops _ _ _ _ _ _ _ c.if-target-ne40.false (fits g.Else-not-records_fit) (closes g.Else-not-closes) (sound g.Else-not-ready) (sym c.in_ok-told.ensures) (λ z. some_row r.field-0.0.row (row ∙ z)))
 
 pub close-requires : goal.close-requires
 close-requires c =
@@ -132,7 +132,7 @@ closing_made c =
 pub returns-in_err-record : goal.returns-in_err-record
 returns-in_err-record c =
     let g = goal.at.returns-in_err-record c in
-    let x = c.in_err-record.write_field-0.0 in
+    let x = c.in_err-record.field-0.0 in
     let e = err_of c.close.result _ x (subst (Told c.close.result _) c.in_err-record.was (told g.After-map_err)) in
     let p = err_from_is_err_and c.from_residual-in_err-record.result c.from_residual-in_err-record.ensures.1 in
     L.record_told _ _ _ _ _ _ _ _ _ (p.1 ∙ ap Err p.2) _ _ e.0 (ap index_of e.1) (rw e.1 (omega (arith, few g.Else-not-records_fit)))

@@ -39,9 +39,9 @@ pair_fits j k = pair_passes (facts_of (state_of j)) (recordOf j) (pair_passed (f
 record-formed : (c : After-judged-s) → FormedFields (recordOf c)
 record-formed c = formed_fields (recordOf c) (passed c).formed
 
-pub setting_of-requires : goal.setting-requires
+pub setting-requires : goal.setting-requires
 unfolding kind
-setting_of-requires c =
+setting-requires c =
     let j = (goal.at.setting-requires c).After-judged-s in
     (setting_ranged_lem (recordOf j) (passed j).ranged c.in-1.is)
 
@@ -53,15 +53,15 @@ take_reading-requires c =
     rw (judged-is j)
     (reading_ranged_lem (recordOf j) A.ranged c.in-2.is, reading_passed (facts_of (state_of j)) (recordOf j) A c.in-2.is, c.requires.0.zero, c.requires.0.span)
 
-pub waiting_of-requires : goal.waiting-requires
+pub waiting-requires : goal.waiting-requires
 unfolding kind
-waiting_of-requires c =
+waiting-requires c =
     let j = (goal.at.waiting-requires c).After-judged-s in
     (waiting_ranged_lem (recordOf j) (passed j).ranged c.in-4.is, (pair_fits j c.in-4.is).starts)
 
-pub with_pair-requires : goal.add_pair-requires
+pub add_pair-requires : goal.add_pair-requires
 unfolding judged_of facts_of kind
-with_pair-requires c =
+add_pair-requires c =
     let j = (goal.at.add_pair-requires c).After-judged-s in
     rw (judged-is j) (omega (arith, (pair_fits j c.in-4.is).room, length-take (state_of j).pending (state_of j).pairs, places (goal.at.add_pair-requires c).Start))
 

@@ -12,9 +12,9 @@ use Rattle.records.specs.Kinds.{line_of, outside_by, Calibration}
 use Rattle.records.specs.Soundness.{CalibrationSound}
 use borrow.Author.Rules.{rules}
 use Rattle.records.proofs.applying.outside.Goals as goal
-use Rattle.records.proofs.applying.outside.Goals.{After-write_field}
+use Rattle.records.proofs.applying.outside.Goals.{After-field}
 
-module _ (c : After-write_field) where
+module _ (c : After-field) where
   fields : ValueFields c.args.r.now
   fields = value_fields c.args.r.now c.requires.2
 
@@ -25,14 +25,14 @@ module _ (c : After-write_field) where
   oxygen-back : let o = c.args.st.now.setting.requirements.oxygen in to_z w32 (of_z w32 o) ≡ o
   oxygen-back = to_z-of_z {w = w32} (between_fits tt c.requires.1.requirements.oxygen)
 
-  signal-back : to_z w32 (of_z w32 c.write_field.result) ≡ signal_of c.args.r.now
+  signal-back : to_z w32 (of_z w32 c.field.result) ≡ signal_of c.args.r.now
   unfolding signal_of
-  signal-back = to_z-of_z {w = w32} (record { sfits = c.write_field.type_inv }) ∙ c.write_field.ensures
+  signal-back = to_z-of_z {w = w32} (record { sfits = c.field.type_inv }) ∙ c.field.ensures
 
 pub value-c-requires : goal.value-c-requires
 unfolding value_conditions
 value-c-requires c =
-    let k = (goal.at.value-c-requires c).After-write_field in (
+    let k = (goal.at.value-c-requires c).After-field in (
       rw (oxygen-back k) c.requires.1.requirements.oxygen,
       rw c.line.ensures (line k),
       rw c.conditions.ensures (fields k).conditions,
@@ -42,7 +42,7 @@ value-c-requires c =
 pub returns-in-Some : goal.returns-in-Some
 unfolding outside_by line_of value_conditions
 returns-in-Some c =
-    let k = (goal.at.returns-in-Some c).After-write_field in
+    let k = (goal.at.returns-in-Some c).After-field in
     let a = c.args in
     let f = c.in-Some.f in
     let is : c.value-c.result ≡ value_of a.st.now.edition a.st.now.setting.requirements.oxygen (line_of f) (value_conditions a.r.now) (signal_of a.r.now) =

@@ -32,8 +32,8 @@ by_last : (c : Else-m-l) {o : Option Waiting}
     last_of (take a.st.pending a.st.pairs) ≡ o → times_fit_of (facts_of a.st) a.r.now ≡ follows o (m - k) k
 by_last c e = whole c.before.before (le-leb _ _ c.if-l-response.false) (le-leb _ _ c.if-m-l.false) ∙ rw e
 
-pub follows-requires : goal.follows_one-requires
-follows-requires c = (last_sound (take c.args.st.pending c.args.st.pairs) _ c.in-Some.ensures.value c.requires.0.pairs).start
+pub follows_one-requires : goal.follows_one-requires
+follows_one-requires c = (last_sound (take c.args.st.pending c.args.st.pairs) _ c.in-Some.ensures.value c.requires.0.pairs).start
 
 pub returns-in-Some : goal.returns-in-Some
 unfolding follows

@@ -31,7 +31,7 @@ returns c =
     let intercept : SFits w64 a.c.line.intercept = search rules in
     let top : SFits w32 a.c.top.0 = search rules in
     whole (fitted (Ok a.c)) a.r.now c.pass_mark.ensures
-    (same_bits w32 c.write_field.type_inv c.write_field.ensures slope)
-    (same_bits w64 c.write_long_field.type_inv c.write_long_field.ensures intercept)
-    (same_bits w32 c.write_field-2.type_inv c.write_field-2.ensures top)
-    (same_bits w32 c.write_field-3.type_inv c.write_field-3.ensures (record { sfits = omega arith }))
+    (same_bits w32 c.field.type_inv c.field.ensures slope)
+    (same_bits w64 c.long_field.type_inv c.long_field.ensures intercept)
+    (same_bits w32 c.field-2.type_inv c.field-2.ensures top)
+    (same_bits w32 c.field-3.type_inv c.field-3.ensures (record { sfits = omega arith }))

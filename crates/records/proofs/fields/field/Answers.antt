@@ -5,7 +5,7 @@ use Rattle.records.specs.Bytes.{le32}
 use Rattle.records.specs.Record.{field_of}
 use Rattle.records.specs.LittleEndian.{from_le_bytes_32, cast_signed_32}
 use Rattle.records.proofs.SignedLaws.{given}
-use Rattle.records.proofs.fields.write_field.Goals as goal
+use Rattle.records.proofs.fields.field.Goals as goal
 
 pub returns : goal.returns
 unfolding field_of

@@ -9,18 +9,18 @@ use Rattle.records.specs.Record.{length_of, field_of}
 use Rattle.records.specs.RecordLaws.{waiting_fields}
 use Rattle.records.proofs.SignedLaws.{given, unsigned_need}
 use Rattle.records.proofs.fields.length.Goals as goal
-use Rattle.records.proofs.fields.length.Goals.{After-write_field}
+use Rattle.records.proofs.fields.length.Goals.{After-field}
 
 -- the field_of, as it is cast
-reads : (c : After-write_field) → to_z w32 (of_z w32 c.write_field.result) ≡ field_of c.args.r.now 8
-reads c = given w32 c.write_field.type_inv c.write_field.ensures
+reads : (c : After-field) → to_z w32 (of_z w32 c.field.result) ≡ field_of c.args.r.now 8
+reads c = given w32 c.field.type_inv c.field.ensures
 
 pub overflow_cast-result : goal.overflow_cast-result
 overflow_cast-result c =
-    unsigned_need w32 (lit< tt) (reads (goal.at.overflow_cast-result c).After-write_field) (waiting_fields _ c.requires).length
+    unsigned_need w32 (lit< tt) (reads (goal.at.overflow_cast-result c).After-field) (waiting_fields _ c.requires).length
 
 pub returns : goal.returns
 unfolding length_of
 returns c =
-    let e = ap nat_abs (reads (goal.at.returns c).After-write_field) in
+    let e = ap nat_abs (reads (goal.at.returns c).After-field) in
     (e, omega (arith, e, (waiting_fields _ c.requires).most))

@@ -5,7 +5,7 @@ use Rattle.records.specs.Bytes.{le32}
 use Rattle.records.specs.Record.{long_field_of}
 use Rattle.records.specs.LittleEndian.{from_le_bytes_64, cast_signed_64}
 use Rattle.records.proofs.SignedLaws.{given}
-use Rattle.records.proofs.fields.write_long_field.Goals as goal
+use Rattle.records.proofs.fields.long_field.Goals as goal
 
 pub returns : goal.returns
 unfolding long_field_of
