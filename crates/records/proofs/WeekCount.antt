@@ -2,8 +2,8 @@
 -- minutes never fall, as those of accepted records never do, both readings say the same.
 use Rattle.std.specs.Prelude.{◌≡◌, refl, Bool, true, false, not, ◌&&◌, ◌||◌, [], ◌∷◌, ℕ, zero, suc, ◌<◌, ◌≤◌, eqb, ltb, T, if◌then◌else◌}
 use Rattle.std.proofs.Common.{sym, ap, ◌∙◌, arith, ltb→lt, nltb→le, eqb→eq}
-use Rattle.records.specs.Kinds.{starts_period, counts, no_values, one_more, exceeds_of, raises_call_of}
-use Rattle.records.specs.History.{Entry, History, own_week, last_week, outside_when, tally_in, turns, judged_on, weeks_over, week_calls}
+use Rattle.records.specs.Kinds.{starts_period, counts, no_values, one_more, exceeds_of, raises_demand_of}
+use Rattle.records.specs.History.{Entry, History, own_week, last_week, outside_when, tally_in, turns, judged_on, weeks_over, week_demands}
 use Rattle.records.specs.Summary.{Taken}
 use Rattle.records.specs.WeekLaws.{Ordered, none_later}
 use Rattle.records.proofs.SummaryLaws.{ordered}
@@ -104,12 +104,12 @@ same_weeks [] o = refl
 same_weeks (r ∷ h) o = rw (judged_exceeds 5 refl h r, same_weeks h o.1) (sym (weeks_step r h o))
 
 -- r is of a later week, and by the calendar the last record's week calls: over 40 percent, or the sixth of its period over 5 percent
-abbrev pub calls_counted : History → Entry → Bool
-calls_counted h r = turns h r && (week_exceeds 40 h (last_week h) || week_exceeds 5 h (last_week h) && eqb (weeks_counted h) 5)
+abbrev pub demands_counted : History → Entry → Bool
+demands_counted h r = turns h r && (week_exceeds 40 h (last_week h) || week_exceeds 5 h (last_week h) && eqb (weeks_counted h) 5)
 
-pub same_calls : (h : History) (r : Entry) → Ordered h → week_calls h r ≡ calls_counted h r
-unfolding week_calls raises_call_of no_values
-same_calls h r o = rw (judged_exceeds 40 refl h r, judged_exceeds 5 refl h r, same_weeks h o) (go (turns h r))
+pub same_demands : (h : History) (r : Entry) → Ordered h → week_demands h r ≡ demands_counted h r
+unfolding week_demands raises_demand_of no_values
+same_demands h r o = rw (judged_exceeds 40 refl h r, judged_exceeds 5 refl h r, same_weeks h o) (go (turns h r))
   where
     a : Bool
     a = week_exceeds 40 h (last_week h)
@@ -125,5 +125,5 @@ same_calls h r o = rw (judged_exceeds 40 refl h r, judged_exceeds 5 refl h r, sa
 pub taken_weeks : (h : History) → Taken h → weeks_over h ≡ weeks_counted h
 taken_weeks h t = same_weeks h (ordered h t)
 
-pub taken_calls : (h : History) (r : Entry) → Taken h → week_calls h r ≡ calls_counted h r
-taken_calls h r t = same_calls h r (ordered h t)
+pub taken_demands : (h : History) (r : Entry) → Taken h → week_demands h r ≡ demands_counted h r
+taken_demands h r t = same_demands h r (ordered h t)

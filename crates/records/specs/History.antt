@@ -6,7 +6,7 @@ use Rattle.std.proofs.Math.Option.{Option, none, some, get_or}
 use Rattle.charts.specs.Runs.{Alarm, Stands}
 use Rattle.records.specs.Lists.{since, those, any}
 use Rattle.records.specs.Record.{Record, minute, difference_of, waiting_of}
-use Rattle.records.specs.Kinds.{Point, no_setting, at_zero, at_span, reads, resets, is_pair, fails, empties, clears_calls, starts_period, counts, setting_after, calibration_after, deviation_of, week_of, outside_by, no_values, one_more, exceeds_of, raises_call_of, Calibration}
+use Rattle.records.specs.Kinds.{Point, no_setting, at_zero, at_span, reads, resets, is_pair, fails, empties, clears_demands, starts_period, counts, setting_after, calibration_after, deviation_of, week_of, outside_by, no_values, one_more, exceeds_of, raises_demand_of, Calibration}
 use Rattle.records.specs.Table.{Facts, refusal_in}
 use Rattle.records.specs.declared.state.Setting.{Setting}
 use Rattle.records.specs.declared.state.Waiting.{Waiting}
@@ -55,12 +55,12 @@ AlarmStands c a h = Stands a (deviation_of c (setting_in h)) (differences_in c h
 -- ---- pairs and the function in force
 
 -- the pairs that wait, oldest first
-unfoldable pub pending_in : History → List Waiting
-pending_in [] = []
-pending_in (r ∷ h) =
+unfoldable pub waiting_in : History → List Waiting
+waiting_in [] = []
+waiting_in (r ∷ h) =
     if empties r.bytes then []
-    else (if is_pair r.bytes then pending_in h ++ (waiting_of r.bytes ∷ [])
-    else pending_in h)
+    else (if is_pair r.bytes then waiting_in h ++ (waiting_of r.bytes ∷ [])
+    else waiting_in h)
 
 -- the newest passed calibration, with its stored figures
 unfoldable pub function_in : History → Calibration
@@ -112,28 +112,28 @@ weeks_over (r ∷ h) =
 -- ---- calls for a new calibration
 
 -- the week that is judged on r raises a call
-unfoldable pub week_calls : History → Entry → Bool
-week_calls h r = raises_call_of (judged_on h r) (weeks_over h)
+unfoldable pub week_demands : History → Entry → Bool
+week_demands h r = raises_demand_of (judged_on h r) (weeks_over h)
 
 -- a minute, where there is a call at it
-abbrev called : Bool → ℕ → List ℕ
-called b m = if b then m ∷ [] else []
+abbrev demanded : Bool → ℕ → List ℕ
+demanded b m = if b then m ∷ [] else []
 
 -- the minutes of the calls since they were last cleared, newest first: of a record's own two, its failed closing is
 -- newer than the week judged on it
-unfoldable pub calls_in : History → List ℕ
-calls_in [] = []
-calls_in (r ∷ h) =
-    if clears_calls r.bytes then []
-    else called (fails r.bytes) (minute r.bytes) ++ called (week_calls h r) (minute r.bytes) ++ calls_in h
+unfoldable pub demands_in : History → List ℕ
+demands_in [] = []
+demands_in (r ∷ h) =
+    if clears_demands r.bytes then []
+    else demanded (fails r.bytes) (minute r.bytes) ++ demanded (week_demands h r) (minute r.bytes) ++ demands_in h
 
 -- the last of a list
 abbrev pub oldest : List ℕ → Option ℕ
 oldest [] = none
 oldest (m ∷ ms) = some (get_or (oldest ms) m)
 
-unfoldable pub first_call : History → Option ℕ
-first_call h = oldest (calls_in h)
+unfoldable pub first_demand : History → Option ℕ
+first_demand h = oldest (demands_in h)
 
 -- ---- usable
 
@@ -153,7 +153,7 @@ pub record Usable (h : History) : Type 0 where
   pub from : ℕ
   pub in_force : minute_of (function_in h) ≡ some from
   pub young : last_minute h - from ≤ 2629440
-  pub called : Recent 263520 (last_minute h) (first_call h)
+  pub demanded : Recent 263520 (last_minute h) (first_demand h)
 
 -- ---- the table's rows, asked of a history
 
@@ -171,7 +171,7 @@ facts_in edition h = record {
   zero_readings = length (differences_in at_zero h);
   span_started = started_in at_span h;
   span_readings = length (differences_in at_span h);
-  pending = pending_in h;
+  waiting = waiting_in h;
   calibration = function_in h;
   edition = edition;
 }

@@ -71,8 +71,8 @@ abbrev pub comes_into_force : Record → Bool
 comes_into_force r = calibrates r
 
 -- the calls up to it are cleared
-abbrev pub clears_calls : Record → Bool
-clears_calls r = calibrates r
+abbrev pub clears_demands : Record → Bool
+clears_demands r = calibrates r
 
 -- a period starts after it (paper 01: a stretch), with no value and no week
 abbrev pub starts_period : Record → Bool
@@ -143,5 +143,5 @@ exceeds_of percent t = ltb (percent * t.total) (100 * t.outside)
 
 -- A judged week raises a call: over 40 percent, or over 5 percent as the sixth such week of its period. Paper 02, C-11,
 -- has a week not judged where none of its values counts: with no values no percentage is exceeded.
-unfoldable pub raises_call_of : Tally → ℕ → Bool
-raises_call_of t over = exceeds_of 40 t || exceeds_of 5 t && eqb over 5
+unfoldable pub raises_demand_of : Tally → ℕ → Bool
+raises_demand_of t over = exceeds_of 40 t || exceeds_of 5 t && eqb over 5

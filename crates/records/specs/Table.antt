@@ -27,7 +27,7 @@ pub record Facts : Type 0 where
   pub zero_readings : ℕ
   pub span_started : Bool
   pub span_readings : ℕ
-  pub pending : List Waiting
+  pub waiting : List Waiting
   pub calibration : Calibration
   pub edition : ℕ
 
@@ -72,11 +72,11 @@ follows (some w) start length = follows_one_of w start length
 unfoldable pub times_fit_of : Facts → Record → Bool
 times_fit_of f r =
     leb (4 * response_of f.setting) (length_of r)
-    && (leb (length_of r) (minute r) && follows (last_of f.pending) (minute r - length_of r) (length_of r))
+    && (leb (length_of r) (minute r) && follows (last_of f.waiting) (minute r - length_of r) (length_of r))
 
 unfoldable pub pair_refusal_of : Facts → Record → ℕ
 pair_refusal_of f r =
-    18 when leb 30 (length f.pending)
+    18 when leb 30 (length f.waiting)
     or 16 when not (times_fit_of f r)
     or 17 when le_z (coverage_of r) (pos 90)
 
@@ -112,14 +112,14 @@ pair_of_waiting w = w.pair
 -- a calibration closing over the pairs that wait, with Z: 20, 21, then the fit's refusals, or its figures
 unfoldable pub calibration_of : Facts → ℤ → Fitted
 calibration_of f z =
-    if not (count_fits_of (length f.pending)) then refused_fit 20
-    else (if not (days_fit_of f.pending) then refused_fit 21
-    else fit_of f.edition f.setting.requirements z (map pair_of_waiting f.pending))
+    if not (count_fits_of (length f.waiting)) then refused_fit 20
+    else (if not (days_fit_of f.waiting) then refused_fit 21
+    else fit_of f.edition f.setting.requirements z (map pair_of_waiting f.waiting))
 
 -- an annual closing: 19, then the test's refusals, or its verdicts
 unfoldable pub annual_by : Calibration → Facts → Tested
 annual_by None f = refused_test 19
-annual_by (Some l) f = test_of f.edition f.setting.requirements (line_of l) (map pair_of_waiting f.pending)
+annual_by (Some l) f = test_of f.edition f.setting.requirements (line_of l) (map pair_of_waiting f.waiting)
 
 abbrev pub annual_of : Facts → Tested
 annual_of f = annual_by f.calibration f
@@ -156,7 +156,7 @@ unfoldable pub annual_refusal_of : Facts → Record → ℕ
 annual_refusal_of f r =
     let t : Tested = annual_of f in
     t.refusal
-    or 25 when not (stores_test_of t (length f.pending) r)
+    or 25 when not (stores_test_of t (length f.waiting) r)
 
 -- ---- 19 for a value
 
