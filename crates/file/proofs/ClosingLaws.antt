@@ -221,7 +221,7 @@ module _ (st : State) (edition : ℕ) (bytes : List ℕ) (kind minute : ℕ) (z 
   abbrev pub Told : Type 0
   Told = record {
     value : made_by result ≡ make_of st edition bytes kind minute z (length old);
-    place : PlaceOfTwelve result;
+    below : PlaceOfTwelve result;
     target_after : old ≡ made_bytes st edition bytes kind minute z old;
   }
 
@@ -232,7 +232,7 @@ module _ (st : State) (edition : ℕ) (bytes : List ℕ) (kind minute : ℕ) (z 
     record_told n place e f p g =
         rw r (record {
           value = rw (e, f) (sym g);
-          place = p;
+          below = p;
           target_after = bytes_kept st edition bytes kind minute z old _ g (λ w. some_row x.row (e ∙ w));
         })
 

@@ -167,9 +167,9 @@ module _ (st : State) (r : Record) (A : Accepted (facts_of st) r) where
   new_setting_sound S =
       if_all SettingSound (sets r) _ _ (λ t. setting_sound r (setting_ranged_lem r A.ranged (eqb_yes t))) (λ t. setting_known st r A.placed t S)
 
-  waiting_after : length st.pairs ≡ 30 → st.waiting ≤ 30 → (if empties r then 0 else (if is_pair r then st.waiting + 1 else st.waiting)) ≤ 30
+  waiting_few : length st.pairs ≡ 30 → st.waiting ≤ 30 → (if empties r then 0 else (if is_pair r then st.waiting + 1 else st.waiting)) ≤ 30
   unfolding is_pair facts_of
-  waiting_after h S =
+  waiting_few h S =
       if_all (λ (n : ℕ). n ≤ 30) (empties r) _ _ (λ t. omega arith)
       (λ t. if_all (λ (n : ℕ). n ≤ 30) (is_pair r) _ _ room (λ u. S))
     where
@@ -205,7 +205,7 @@ applied_sound m st r h S e =
       setting = new_setting_sound st r A S.setting;
       zero = chart_sound st.edition at_zero st.setting r st.zero S.zero (reading_fits st r A at_zero);
       span = chart_sound st.edition at_span st.setting r st.span S.span (reading_fits st r A at_span);
-      waiting = waiting_after st r A h S.waiting;
+      waiting = waiting_few st r A h S.waiting;
       pairs = kept_sound (empties r) (is_pair r) st.waiting st.pairs (waiting_of r) S.pairs (waiting_after st r A);
       calibration = calibration_sound m st r S A;
       total = w.0;

@@ -40,13 +40,13 @@ pub measured-first-requires : goal.measured-first-requires
 measured-first-requires c = ranged_at c.args.self.pairs.now 0 c.args.self.some (all_ranged c.args.self.pairs.now c.args.self.ranged)
 
 pub measured-requires : goal.measured-requires
-measured-requires c = (ranged_at c.args.self.pairs.now c.loop-p.p-place c.loop-p-test.true (all_ranged c.args.self.pairs.now c.args.self.ranged))
+measured-requires c = (ranged_at c.args.self.pairs.now c.loop-p.p-index c.loop-p-test.true (all_ranged c.args.self.pairs.now c.args.self.ranged))
 
 pub loop-p-preserved : goal.loop-p-preserved
 loop-p-preserved c =
     let ps = c.args.self.pairs.now in
     let b = c.args.self.basis in
-    let i = c.loop-p.p-place in
+    let i = c.loop-p.p-index in
     let h = c.loop-p-test.true in
     let v = measured_of b.edition b.requirements.oxygen (get_or ps i unset) in
     let left = rw (drop_next ps i unset h) at c.loop-p.invariant.whole in
@@ -97,5 +97,5 @@ returns c =
     let S = c.loop-p.invariant.spanned in
     let ps = c.args.self.pairs.now in
     let b = c.args.self.basis in
-    let whole : c.loop-p.s ≡ span_of (map (measured_of b.edition b.requirements.oxygen) ps) = rw (drop_of_length-le ps {i = c.loop-p.p-place} c.loop-p-test.false) at c.loop-p.invariant.whole in
+    let whole : c.loop-p.s ≡ span_of (map (measured_of b.edition b.requirements.oxygen) ps) = rw (drop_of_length-le ps {i = c.loop-p.p-index} c.loop-p-test.false) at c.loop-p.invariant.whole in
     rw (c.from.ensures, c.from-2.ensures, c.from-3.ensures) (lt_flag (KD c.loop-p.s S) (FE b c.args.self.required)) ∙ ap (λ (v : Span). lt_z (pos 100 *ℤ (v.high.0 -ℤ v.low.0)) (pos 15 *ℤ b.requirements.limit)) whole

@@ -7,5 +7,5 @@ use Rattle.calibration.proofs.sample.Sample.is_flat.Given as goal
 abbrev pub invariant-loop-p : goal.invariant-loop-p
 invariant-loop-p l = record {
   spanned : Spanned 33600000 l.s;
-  whole : span_from l.s (map (measured_of l.self.basis.edition l.self.basis.requirements.oxygen) (drop l.p-place l.self.pairs.now)) ≡ span_of (map (measured_of l.self.basis.edition l.self.basis.requirements.oxygen) l.self.pairs.now);
+  whole : span_from l.s (map (measured_of l.self.basis.edition l.self.basis.requirements.oxygen) (drop l.p-index l.self.pairs.now)) ≡ span_of (map (measured_of l.self.basis.edition l.self.basis.requirements.oxygen) l.self.pairs.now);
 }

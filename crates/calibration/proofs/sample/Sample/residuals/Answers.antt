@@ -26,10 +26,10 @@ pub fitted_value-requires : goal.fitted_value-requires
 fitted_value-requires c = (c.requires.0, ranged_at c.args.self.pairs.now 0 c.args.self.some (all_ranged c.args.self.pairs.now c.args.self.ranged))
 
 pub measured-requires : goal.measured-requires
-measured-requires c = (ranged_at c.args.self.pairs.now c.loop-p.p-place c.loop-p-test.true (all_ranged c.args.self.pairs.now c.args.self.ranged))
+measured-requires c = (ranged_at c.args.self.pairs.now c.loop-p.p-index c.loop-p-test.true (all_ranged c.args.self.pairs.now c.args.self.ranged))
 
 pub fitted_value-requires-in-loop-p : goal.fitted_value-requires-in-loop-p
-fitted_value-requires-in-loop-p c = (c.requires.0, ranged_at c.args.self.pairs.now c.loop-p.p-place c.loop-p-test.true (all_ranged c.args.self.pairs.now c.args.self.ranged))
+fitted_value-requires-in-loop-p c = (c.requires.0, ranged_at c.args.self.pairs.now c.loop-p.p-index c.loop-p-test.true (all_ranged c.args.self.pairs.now c.args.self.ranged))
 
 -- y' and c of a turn's pair
 near : (b : Basis) (l : Line) (ps : List Pair) (i : ℕ) → i < length ps → some_beyond b.edition b.requirements.oxygen l ps ≡ false
@@ -39,13 +39,13 @@ near b l ps i h B = pair_near b.edition b.requirements.oxygen l (get_or ps i uns
 pub with_residual-r-requires : goal.with_residual-r-requires
 with_residual-r-requires c =
     let R = c.loop-p.invariant.ranged in
-    let f = near c.args.self.basis c.args.l c.args.self.pairs.now c.loop-p.p-place c.loop-p-test.true c.requires.1 in
+    let f = near c.args.self.basis c.args.l c.args.self.pairs.now c.loop-p.p-index c.loop-p-test.true c.requires.1 in
     (omega (arith, R.sum), omega (arith, R.squares), rw c.measured.ensures f.0, rw c.fitted_value-in-loop-p.ensures f.1)
 
 pub loop-p-preserved : goal.loop-p-preserved
 loop-p-preserved c =
     let ps = c.args.self.pairs.now in
-    let i = c.loop-p.p-place in
+    let i = c.loop-p.p-index in
     let h = c.loop-p-test.true in
     let edition = c.args.self.basis.edition in
     let o = c.args.self.basis.requirements.oxygen in

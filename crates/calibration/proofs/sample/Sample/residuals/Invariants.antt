@@ -7,6 +7,6 @@ use Rattle.calibration.proofs.sample.Sample.residuals.Given as goal
 
 abbrev pub invariant-loop-p : goal.invariant-loop-p
 invariant-loop-p l = record {
-  ranged : ResidualsRanged l.p-place l.r;
-  whole : foldl (with_residual_of_pair l.self.basis.edition l.self.basis.requirements.oxygen l.l) l.r (drop l.p-place l.self.pairs.now) ≡ residuals_of l.self.basis.edition l.self.basis.requirements.oxygen l.l l.self.pairs.now;
+  ranged : ResidualsRanged l.p-index l.r;
+  whole : foldl (with_residual_of_pair l.self.basis.edition l.self.basis.requirements.oxygen l.l) l.r (drop l.p-index l.self.pairs.now) ≡ residuals_of l.self.basis.edition l.self.basis.requirements.oxygen l.l l.self.pairs.now;
 }

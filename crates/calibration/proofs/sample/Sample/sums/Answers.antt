@@ -14,13 +14,13 @@ loop-p-init c =
     record { counted = rw e refl; ranged = rw e none_ranged; whole = rw e (sums_from c.args.self.pairs.now) }
 
 pub plus-u-requires : goal.plus-u-requires
-plus-u-requires c = (c.loop-p.invariant.ranged, omega arith, ranged_at c.args.self.pairs.now c.loop-p.p-place c.loop-p-test.true (all_ranged c.args.self.pairs.now c.args.self.ranged))
+plus-u-requires c = (c.loop-p.invariant.ranged, omega arith, ranged_at c.args.self.pairs.now c.loop-p.p-index c.loop-p-test.true (all_ranged c.args.self.pairs.now c.args.self.ranged))
 
 pub loop-p-preserved : goal.loop-p-preserved
 unfolding plus_of
 loop-p-preserved c =
     let ps = c.args.self.pairs.now in
-    let i = c.loop-p.p-place in
+    let i = c.loop-p.p-index in
     let h = c.loop-p-test.true in
     let e = c.plus-u.ensures in
     let left = rw (drop_next ps i unset h) at c.loop-p.invariant.whole in

@@ -7,7 +7,7 @@ use Rattle.calibration.proofs.sample.Sample.sums.Given as goal
 
 abbrev pub invariant-loop-p : goal.invariant-loop-p
 invariant-loop-p l = record {
-  counted : l.u.n ≡ l.p-place;
+  counted : l.u.n ≡ l.p-index;
   ranged : SumsRanged l.u;
-  whole : foldl plus_of l.u (drop l.p-place l.self.pairs.now) ≡ sums_of l.self.pairs.now;
+  whole : foldl plus_of l.u (drop l.p-index l.self.pairs.now) ≡ sums_of l.self.pairs.now;
 }
