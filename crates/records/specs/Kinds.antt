@@ -120,7 +120,7 @@ unfoldable pub line_of : Function → Line
 line_of f = record { slope = f.slope; intercept = f.intercept }
 
 -- A value lies outside the range of the function in force: its c, rounded by the edition of the value's own block, is
--- negative or exceeds_of the top as it is stored. Without a function row 19 stops it, so that the first line is never
+-- negative or exceeds the top as it is stored. Without a function row 19 stops it, so that the first line is never
 -- asked.
 unfoldable pub outside_by : ℕ → Calibration → Setting → Record → Bool
 outside_by edition None s r = false
@@ -137,7 +137,7 @@ no_values = record { total = 0; outside = 0 }
 unfoldable pub one_more : Bool → Tally → Tally
 one_more outside t = record { total = t.total + 1; outside = if outside then t.outside + 1 else t.outside }
 
--- more than a point_mark of percent are outside
+-- more than a number of percent are outside
 abbrev pub exceeds_of : ℕ → Tally → Bool
 exceeds_of percent t = ltb (percent * t.total) (100 * t.outside)
 

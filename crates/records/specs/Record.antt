@@ -35,7 +35,7 @@ signed32 n = if ltb n 2147483648 then pos n else negsuc (4294967295 - n)
 unfoldable pub signed64 : ℕ → ℤ
 signed64 n = if ltb n 9223372036854775808 then pos n else negsuc (18446744073709551615 - n)
 
--- a signed field_of of four bytes, and one of eight
+-- a signed field of four bytes, and one of eight
 unfoldable pub field_of : Record → ℕ → ℤ
 field_of r at = signed32 (le32 r at)
 
@@ -134,7 +134,7 @@ waiting_ranged_of r =
 unfoldable pub value_ranged_of : Record → Bool
 value_ranged_of r = between_of (pos 0) (pos 400000) (signal_of r) && conditions_ranged_of (value_conditions r)
 
--- every field_of that has a range is in it; of a closing that is Z alone
+-- every field that has a range is in it; of a closing that is Z alone
 unfoldable pub ranged_of : Record → Bool
 ranged_of r =
     if eqb (kind r) 1 then setting_ranged_of r

@@ -1,4 +1,4 @@
--- `apply::apply` meets its contract.
+-- `applying::apply` meets its contract.
 use mathlib.Core.Path.{◌≡◌, ap, ◌∙◌}
 use native.Mathlib.Omega.{arith}
 use lib.ListN.{length, length-take}

@@ -1,4 +1,4 @@
--- `apply::demand_after` meets its contract.
+-- `applying::demand_after` meets its contract.
 use mathlib.Core.Path.{sym, ◌∙◌}
 use Rattle.charts.specs.Tests.{if_yes}
 use Rattle.records.proofs.ApplyLaws.{raised_or}

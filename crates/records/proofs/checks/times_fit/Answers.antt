@@ -1,4 +1,4 @@
--- `checks::times_fit_of` meets its contract.
+-- `checks::times_fit` meets its contract.
 use mathlib.Core.Path.{◌≡◌, sym, ◌∙◌}
 use mathlib.Core.Bool.{Bool, ◌&&◌}
 use mathlib.Core.Option.{Option}

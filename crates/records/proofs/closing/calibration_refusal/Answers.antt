@@ -1,4 +1,4 @@
--- `closing::calibration_refusal_of` meets its contract.
+-- `closing::calibration_refusal` meets its contract.
 use mathlib.Core.Path.{◌≡◌, sym, ap, subst, ◌∙◌}
 use mathlib.Core.Bool.{not}
 use Prim.Native.Nat.{◌≤◌}
