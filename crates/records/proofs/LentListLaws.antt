@@ -31,7 +31,7 @@ basis_of f = record { edition = f.edition; requirements = f.setting.requirements
 abbrev pub list_of_waiting : Facts → ℤ → Fitted
 list_of_waiting f z = fit_list_of (basis_of f) z (map pair_of_waiting f.waiting)
 
--- 20 and 21 ahead of an outcome that meets 20 itself
+-- 20 and 21 before an outcome that meets 20 itself
 ahead : (counted days : Bool) (x y : Fitted) → y ≡ x → (counted ≡ false → x ≡ refused_fit 20)
     → (if not counted then refused_fit 20 else (if not days then refused_fit 21 else x)) ≡ (if counted && not days then refused_fit 21 else y)
 ahead true true x y e h = sym e

@@ -18,7 +18,8 @@ use Rattle.records.specs.declared.state.Tally.{Tally}
 abbrev pub without_editions : History → List Record
 without_editions h = map (λ (r : Entry). r.bytes) h
 
--- what two histories have in common: the setting and the last minute, the differences and the alarms at each chart, the
+-- what two histories have in common: the setting and the last minute, the differences and the alarms at each chart,
+-- the
 -- pairs that wait, the function in force and how many values of each week count; and of a next record, by which row it
 -- is refused and whether it is a value outside
 pub record Alike (h k : History) : Type 0 where

@@ -1,5 +1,6 @@
 -- The range in which a state's arithmetic fits its fields: the code's own, with no sentence of paper 01. Every state
--- that calls leave is in it, and others may be. The edition may be any number, since none overflows anything (paper 02,
+-- that calls leave is in it, and others may be. The edition may be any number, since none overflows anything (paper
+-- 02,
 -- C-12). `most` bounds what is counted record by record: a state that has taken n blocks is sound for 12·n.
 use Rattle.std.specs.Prelude.{Bool, true, false, ◌&&◌, List, [], ◌∷◌, ℕ, ◌≤◌, leb, take, None, Some}
 use Rattle.charts.specs.Tests.{Answers, answers_le, answers_and, answers_as}
@@ -112,7 +113,8 @@ Fitting st = Sound count_limit st
 
 unfoldable pub sound_of : ℕ → State → Bool
 sound_of most st =
-    (((leb st.minute minute_limit && begun_sound_of st.begun st.setting) && (chart_sound_of st.zero && chart_sound_of st.span))
+    (((leb st.minute minute_limit && begun_sound_of st.begun st.setting)
+    && (chart_sound_of st.zero && chart_sound_of st.span))
     && ((leb st.waiting 30 && all_sound_of (take st.waiting st.pairs)) && calibration_sound_of st.calibration))
     && ((leb st.tally.total most && leb st.tally.outside most) && leb st.over most)
 

@@ -1,4 +1,5 @@
--- Paper 01, 'Where input is stopped', rows 10 to 25, with the times, coverage, days and span of 'Calibration (6.4, 6.5)',
+-- Paper 01, 'Where input is stopped', rows 10 to 25, with the times, coverage, days and span of 'Calibration (6.4,
+-- 6.5)',
 -- and paper 02, C-12 and C-13. The rows ask certain facts of the records before, and the edition of the record's own
 -- block; they are the same whether read from a history or from a state.
 use Rattle.std.specs.Prelude.{Bool, true, false, not, ◌&&◌, ◌||◌, List, [], ◌∷◌, map, ℕ, suc, ◌+◌, ◌-◌, ◌*◌, leb, ltb, eqb, ℤ, pos, length, if◌then◌else◌, None, Some}
@@ -15,7 +16,8 @@ use Rattle.records.specs.Kinds.{sets, day_of, response_of, line_of, Calibration}
 use Rattle.records.specs.declared.state.Setting.{Setting}
 use Rattle.records.specs.declared.state.Waiting.{Waiting}
 
--- what the rows ask beside the record: is there one before it, the last minute, the setting, of each chart whether it is
+-- what the rows ask beside the record: is there one before it, the last minute, the setting, of each chart whether it
+-- is
 -- started and how many readings it has since its reset, the pairs that wait (oldest first), the function in force, and
 -- the edition of the block in which the record stands. By this one all figures of a closing are rounded, y' too,
 -- whichever the edition in which its pairs were taken (paper 02, C-13).
@@ -137,7 +139,8 @@ pass_mark_of c = if c.passed then 1 else 0
 unfoldable pub stores_fit_of : Fitted → Record → Bool
 stores_fit_of c r =
     (eqb (mark r) (pass_mark_of c) && sameℤ (field_of r 12) c.line.slope)
-    && (sameℤ (long_field_of r 16) c.line.intercept && (sameℤ (field_of r 24) c.top.0 && sameℤ (field_of r 28) (pos c.count)))
+    && (sameℤ (long_field_of r 16) c.line.intercept
+    && (sameℤ (field_of r 24) c.top.0 && sameℤ (field_of r 28) (pos c.count)))
 
 unfoldable pub calibration_refusal_of : Facts → Record → ℕ
 calibration_refusal_of f r =
