@@ -294,7 +294,7 @@ impl<'a, R: Print> Desk<'a, R> {
     fn show(&self) -> io::Result<()> {
         let st = &self.state;
         print!(self.rt; " minute {} zero {}", st.minute, readings(st.zero))?;
-        print!(self.rt; " span {} pairs {}", readings(st.span), st.pending)?;
+        print!(self.rt; " span {} pairs {}", readings(st.span), st.waiting)?;
         print!(self.rt;
             " total {} outside {} over {}",
             st.tally.total, st.tally.outside, st.over

@@ -1,6 +1,6 @@
 -- A signed local holds bits, and each need of a signed operation speaks of what the machine reads back from them,
 -- `to_z w b`. `Loc w` is such a local: its bits, the number that they stand for, and that it fits. The code's steps
--- are written again on_both these, `add A B f` for `a + b`: the bits are those of the machine's result by computation, and
+-- are written again on these, `add A B f` for `a + b`: the bits are those of the machine's result by computation, and
 -- the number is the sum. `add_need A B f` is what the operation asks.
 use Rattle.std.specs.Prelude.{◌≡◌, true, false, ℕ, zero, suc, ◌/◌, ◌^◌, ◌≤◌, ◌<◌, T, ℤ, pos, negsuc, neg_ℤ, nat_abs}
 use Rattle.std.specs.Prelude.{◌+ℤ◌, ◌-ℤ◌, ◌*ℤ◌, ◌≤ℤ◌, ◌<ℤ◌}
@@ -112,7 +112,7 @@ nle (pos a) (negsuc b) e = record { lt = tt }
 nle (negsuc a) (pos b) e = absurd (subst T e tt)
 nle (negsuc a) (negsuc b) e = record { lt = lt→ltb a b (leb-false b a e) }
 
--- ---- a signed test in the code, as a fact: `lt_true A B c.if-z-lt0.true`
+-- ---- a signed test in the code, as a fact: `le_true A B c.if-z-le0.true`
 module _ {w : Width} (A B : Loc w) where
   pub le_true : le_z (to_z w A.bits) (to_z w B.bits) ≡ true → A.num ≤ℤ B.num
   le_true e = le_z_yes (subst T (sym (sym (le_flag A B) ∙ e)) tt)

@@ -80,7 +80,7 @@ figures m st z S Q Z =
     (λ t. if_all Figures (not (days_fit_of ws)) _ _ (λ u e. absurd (omega arith)) (λ u e. (fitted_ranged st.edition q z ps Q.requirements Z (pairs_ranged ws S.pairs) few e, fit_top st.edition q z ps Q.requirements)))
   where
     ws : List Waiting
-    ws = take st.pending st.pairs
+    ws = take st.waiting st.pairs
 
     ps : List Pair
     ps = map pair_of_waiting ws
@@ -89,11 +89,11 @@ figures m st z S Q Z =
     q = st.setting.requirements
 
     few : length ps ≤ 30
-    few = omega (arith, S.pending, length-map ws pair_of_waiting, length-take st.pending st.pairs)
+    few = omega (arith, S.waiting, length-map ws pair_of_waiting, length-take st.waiting st.pairs)
 
-waiting_few : (m : ℕ) (st : State) → Sound m st → length (facts_of st).pending ≤ 30
+waiting_few : (m : ℕ) (st : State) → Sound m st → length (facts_of st).waiting ≤ 30
 unfolding facts_of
-waiting_few m st S = omega (arith, S.pending, length-take st.pending st.pairs)
+waiting_few m st S = omega (arith, S.waiting, length-take st.waiting st.pairs)
 
 stored : (m : ℕ) (st : State) (z : ℤ) → Sound m st → SettingSound st.setting → ZRanged z → (calibration_of (facts_of st) z).refusal ≡ 0 → Stored (calibration_of (facts_of st) z)
 stored m st z S Q Z e =
@@ -137,9 +137,9 @@ module _ (f : Facts) (r : Record) where
   unfolding kind_refusal_of calibration_refusal_of
   calibration_kind_passes k z e n s = rw (k, e) (both_pass (calibration_of f z).refusal (stores_fit_of (calibration_of f z) r) n s)
 
-  annual_kind_passes : kind r ≡ 6 → (annual_of f).refusal ≡ 0 → stores_test_of (annual_of f) (length f.pending) r ≡ true → kind_refusal_of f r ≡ 0
+  annual_kind_passes : kind r ≡ 6 → (annual_of f).refusal ≡ 0 → stores_test_of (annual_of f) (length f.waiting) r ≡ true → kind_refusal_of f r ≡ 0
   unfolding kind_refusal_of annual_refusal_of
-  annual_kind_passes k n s = rw k (both_pass (annual_of f).refusal (stores_test_of (annual_of f) (length f.pending) r) n s)
+  annual_kind_passes k n s = rw k (both_pass (annual_of f).refusal (stores_test_of (annual_of f) (length f.waiting) r) n s)
 
 -- a minute in time is no more than the last one there is
 minute_small : (f : Facts) (m : ℕ) → untimely_of f m ≡ false → m ≤ minute_limit
@@ -173,10 +173,10 @@ module _ (m : ℕ) (st : State) (S : Sound m st) (minute : ℕ) (z : ℤ) where
       (calibration_kind_passes f r k z y e (calibration_stores c minute z F))
 
   accepted_annual : (kind : ℕ) → first_rows_of (facts_of st) kind minute z ≡ 0 → (annual_of (facts_of st)).refusal ≡ 0
-      → refusal_in (facts_of st) (annual_record (annual_of (facts_of st)) (length (facts_of st).pending) minute) ≡ 0
+      → refusal_in (facts_of st) (annual_record (annual_of (facts_of st)) (length (facts_of st).waiting) minute) ≡ 0
   accepted_annual kind h e =
       let f = facts_of st in
-      let n = length f.pending in
+      let n = length f.waiting in
       let r = annual_record (annual_of f) n minute in
       let k = annual_kind (annual_of f) n minute in
       closing_passes f r 6 kind minute z h k (λ q. omega arith) (annual_minute (annual_of f) n minute) (annual_formed (annual_of f) n minute)

@@ -24,7 +24,7 @@ use Rattle.file.specs.Calls.{opened, ready_of}
 use Rattle.file.specs.RoomLaws.{opened_pairs, opened_ready}
 use Rattle.file.specs.RoomLaws.{ready_fit, within_none, within_ran}
 use Rattle.file.proofs.CallsLaws.{records_length}
-use Rattle.file.specs.Answered.{PlaceOfTwelve, index_of, ran_of}
+use Rattle.file.specs.Answered.{PlaceOfTwelve, place_number, ran_of}
 use Rattle.file.specs.declared.Refused.{Refused}
 use Rattle.file.proofs.OutcomeLaws.{some_row}
 use Rattle.file.specs.Closings.{Made, first_rows_of, z_fits_of, closing_of, closing_refusal, made, made_at, made_by, ran_before, making_refusal, make_of, made_bytes}
@@ -73,7 +73,7 @@ module _ (f : Facts) (kind minute : ℕ) (z : ℤ) where
   unfolding closing_of
   calibration_bytes k = if_yes (eqb kind 5) _ _ (eq-eqb kind 5 k)
 
-  pub annual_bytes : (kind ≡ 5 → ⊥) → closing_of f kind minute z ≡ annual_record (annual_of f) (length f.pending) minute
+  pub annual_bytes : (kind ≡ 5 → ⊥) → closing_of f kind minute z ≡ annual_record (annual_of f) (length f.waiting) minute
   unfolding closing_of
   annual_bytes k = if_no (eqb kind 5) _ _ (ne_eqb kind 5 k)
 
@@ -116,7 +116,7 @@ module _ (st : State) (edition : ℕ) (bytes : List ℕ) (kind minute : ℕ) (z 
   past_records = unless_refused (made_at (length bytes / 40)) own_rows (made 0 255)
 
   abbrev past_rows : Made
-  past_rows = unless_refused (made_at before.index) before.refusal past_records
+  past_rows = unless_refused (made_at before.place) before.refusal past_records
 
   abbrev make : Made
   make = make_of st edition bytes kind minute z size
@@ -158,14 +158,14 @@ module _ (st : State) (edition : ℕ) (bytes : List ℕ) (kind minute : ℕ) (z 
             unfolding make_of
             past_call = unless_next (made_at 255) call_rows past_rows (told_row ∙ t)
 
-            pub record_stops : ((ran_of (opened st edition) bytes).refusal ≡ 0 → ⊥) → make ≡ made (ran_of (opened st edition) bytes).refusal (ran_of (opened st edition) bytes).index
+            pub record_stops : ((ran_of (opened st edition) bytes).refusal ≡ 0 → ⊥) → make ≡ made (ran_of (opened st edition) bytes).refusal (ran_of (opened st edition) bytes).place
             unfolding ran_before ran_of
-            record_stops n = past_call ∙ unless_stop (made_at before.index) before.refusal past_records n
+            record_stops n = past_call ∙ unless_stop (made_at before.place) before.refusal past_records n
 
             module _ (e : (ran_of (opened st edition) bytes).refusal ≡ 0) where
               past : make ≡ past_records
               unfolding ran_before ran_of
-              past = past_call ∙ unless_next (made_at before.index) before.refusal past_records e
+              past = past_call ∙ unless_next (made_at before.place) before.refusal past_records e
 
               pub closing_stops : (n : ℕ) → n ≡ closing_refusal (facts_of (ran_of (opened st edition) bytes).state) kind minute z → (n ≡ 0 → ⊥) → make ≡ made n (length bytes / 40)
               unfolding ran_before ran_of
@@ -192,7 +192,7 @@ made_passes st edition bytes kind minute z size e =
     let b = row_passed 6 (not (records_fit_of 0 11 (length bytes))) tt a.1 in
     let c = row_passed 6 (not (eqb kind 5 || eqb kind 6)) tt b.1 in
     let d = row_passed 7 (not (ready_of st)) tt c.1 in
-    let ran = let_on (ran_before st edition bytes).index (ran_before st edition bytes).refusal _ call.1 in
+    let ran = let_on (ran_before st edition bytes).place (ran_before st edition bytes).refusal _ call.1 in
     let own = let_on (length bytes / 40) (closing_refusal (facts_of (ran_before st edition bytes).kept) kind minute z) (made 0 255) ran.1 in
     record {
       fits = not-false (records_fit_of 0 11 (length bytes)) b.0;
@@ -202,8 +202,8 @@ made_passes st edition bytes kind minute z size e =
       passes = own.0;
     }
   where
-    let_on : (index n : ℕ) (rest : Made) → (unless_refused (made_at index) n rest).refusal ≡ 0 → (n ≡ 0) × (rest.refusal ≡ 0)
-    let_on index n rest e = unless_passed (made_at index) (λ (m : Made). m.refusal) (λ n. refl) n rest e
+    let_on : (place n : ℕ) (rest : Made) → (unless_refused (made_at place) n rest).refusal ≡ 0 → (n ≡ 0) × (rest.refusal ≡ 0)
+    let_on place n rest e = unless_passed (made_at place) (λ (m : Made). m.refusal) (λ n. refl) n rest e
 
 module _ (st : State) (edition : ℕ) (bytes : List ℕ) (kind minute : ℕ) (z : ℤ) (old : List ℕ) (x : Made)
     (e : make_of st edition bytes kind minute z (length old) ≡ x) where
@@ -221,21 +221,21 @@ module _ (st : State) (edition : ℕ) (bytes : List ℕ) (kind minute : ℕ) (z 
   abbrev pub Told : Type 0
   Told = record {
     value : made_by result ≡ make_of st edition bytes kind minute z (length old);
-    place : PlaceOfTwelve result;
+    below : PlaceOfTwelve result;
     target_after : old ≡ made_bytes st edition bytes kind minute z old;
   }
 
   module _ (x : Refused) (r : result ≡ Err x) where
     -- by the row of a record, or the closing's own
-    pub record_told : (n index : ℕ) → number_of x.row ≡ n → index_of x.place ≡ index → IfSome x.place (λ place. place < 12)
-        → make_of st edition bytes kind minute z (length old) ≡ made n index → Told
-    record_told n index e f p g =
+    pub record_told : (n place : ℕ) → number_of x.row ≡ n → place_number x.place ≡ place → IfSome x.place (λ place. place < 12)
+        → make_of st edition bytes kind minute z (length old) ≡ made n place → Told
+    record_told n place e f p g =
         rw r (record {
           value = rw (e, f) (sym g);
-          place = p;
+          below = p;
           target_after = bytes_kept st edition bytes kind minute z old _ g (λ w. some_row x.row (e ∙ w));
         })
 
     -- by another
     pub row_told : (row : Refusal) → x ≡ record { row = row; place = None } → make_of st edition bytes kind minute z (length old) ≡ made (number_of row) 255 → Told
-    row_told row e g = record_told (number_of row) 255 (ap (λ (y : Refused). number_of y.row) e) (ap (λ (y : Refused). index_of y.place) e) (rw e tt) g
+    row_told row e g = record_told (number_of row) 255 (ap (λ (y : Refused). number_of y.row) e) (ap (λ (y : Refused). place_number y.place) e) (rw e tt) g

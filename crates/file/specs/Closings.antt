@@ -22,7 +22,7 @@ use Rattle.file.specs.declared.Refused.{Refused}
 unfoldable pub closing_of : Facts → ℕ → ℕ → ℤ → Record
 closing_of f kind minute z =
     if eqb kind 5 then calibration_record (calibration_of f z) minute z
-    else annual_record (annual_of f) (length f.pending) minute
+    else annual_record (annual_of f) (length f.waiting) minute
 
 -- ---- its rows: 11, 12, 13, then 19 to 24
 
@@ -47,17 +47,17 @@ closing_refusal f kind minute z =
 -- record's row)
 pub record Made : Type 0 where
   pub refusal : ℕ
-  pub index : ℕ
+  pub place : ℕ
 
 -- the code's answer as such a one
 abbrev pub made_by : Result Unit Refused → Made
-made_by r = record { refusal = row_of r; index = place_of r }
+made_by r = record { refusal = row_of r; place = place_of r }
 
 abbrev pub made : ℕ → ℕ → Made
-made refusal index = record { refusal = refusal; index = index }
+made refusal place = record { refusal = refusal; place = place }
 
 abbrev pub made_at : ℕ → ℕ → Made
-made_at index refusal = made refusal index
+made_at place refusal = made refusal place
 
 -- the records before it, one after another, in a block of the edition told
 unfoldable pub ran_before : State → ℕ → List ℕ → Ran State
@@ -79,7 +79,7 @@ unfoldable pub make_of : State → ℕ → List ℕ → ℕ → ℕ → ℤ → 
 make_of st edition bytes kind minute z size =
     let ran : Ran State = ran_before st edition bytes in
     unless_refused (made_at 255) (making_refusal st edition bytes kind size)
-    (unless_refused (made_at ran.index) ran.refusal
+    (unless_refused (made_at ran.place) ran.refusal
     (unless_refused (made_at (length bytes / 40)) (closing_refusal (facts_of ran.kept) kind minute z)
     (made 0 255)))
 

@@ -68,7 +68,7 @@ fn close(st: State, closing: Closing) -> Result<[u8; 40], Refusal>
         return Ok(writing::calibration(figures, closing.minute, closing.z));
     }
     let verdicts = records::annual_result(st)?;
-    Ok(writing::annual(verdicts, st.pending, closing.minute))
+    Ok(writing::annual(verdicts, st.waiting, closing.minute))
 }
 
 // Making a closing for a block of the edition told into the target, with any state, any edition, any bytes, any closing and any target. State and edition
@@ -81,7 +81,7 @@ pub fn make_closing(
     target: &mut [u8],
 ) -> Result<(), Refused>
     ensures value { made_by result ≡ make_of st edition bytes.now closing.kind closing.minute closing.z (length target.old) }
-    ensures place { PlaceOfTwelve result }
+    ensures below { PlaceOfTwelve result }
     ensures target_after { target.new ≡ made_bytes st edition bytes.now closing.kind closing.minute closing.z target.old }
 {
     if target.len() != 40 {

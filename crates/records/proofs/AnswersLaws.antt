@@ -9,8 +9,8 @@ use Rattle.charts.specs.Readings.{Reading, after_readings, alarm_of}
 use Rattle.charts.proofs.ChartLaws.{alarms_after, blank_answers}
 use Rattle.records.specs.Kinds.{Point, at_zero, at_span, deviation_of, Calibration}
 use Rattle.records.specs.Record.{difference_of}
-use Rattle.records.specs.History.{History, on, last_minute, setting_in, started_in, readings_since, differences_in, function_in, first_call, AlarmStands, minute_of, Recent, Usable}
-use Rattle.records.specs.Summary.{reading_of, chart_in, demand_of, Place, summary_of}
+use Rattle.records.specs.History.{History, on, last_minute, setting_in, started_in, readings_since, differences_in, function_in, first_demand, AlarmStands, minute_of, Recent, Usable}
+use Rattle.records.specs.Summary.{reading_of, chart_in, demand_of, Position, summary_of}
 use Rattle.records.proofs.SummaryLaws.{differences_of}
 use Rattle.records.specs.Answers.{alarms_at, silent_of, young_of, recent_of, usable_of}
 
@@ -30,12 +30,12 @@ chart_answers c a h = go (started_in c h)
     go false = blank_answers a s
 
 -- ALARMS: each of the six, answered from the summary, stands exactly if some run of the history's readings says so
-pub alarm_says : (c : Point) (a : Alarm) (p : Place) (h : History) → Answers (alarm_of a (alarms_at c (summary_of p h))) (AlarmStands c a h)
+pub alarm_says : (c : Point) (a : Alarm) (p : Position) (h : History) → Answers (alarm_of a (alarms_at c (summary_of p h))) (AlarmStands c a h)
 unfolding alarms_at summary_of
 alarm_says at_zero a p h = chart_answers at_zero a h
 alarm_says at_span a p h = chart_answers at_span a h
 
-silent_says : (c : Point) (p : Place) (h : History) → Answers (silent_of (alarms_at c (summary_of p h))) ((a : Alarm) → ¬ AlarmStands c a h)
+silent_says : (c : Point) (p : Position) (h : History) → Answers (silent_of (alarms_at c (summary_of p h))) ((a : Alarm) → ¬ AlarmStands c a h)
 silent_says c p h =
     answers_as
     (answers_and (answers_and (answers_not (alarm_says c rising p h)) (answers_not (alarm_says c falling p h))) (answers_not (alarm_says c precision p h)))
@@ -57,18 +57,18 @@ recent_says limit m none = record { sure = λ x. tt; back = λ x. tt }
 recent_says limit m (some f) = answers_le (m - f) limit
 
 -- USABLE, answered from the summary, is the history's
-pub usable_says : (p : Place) (h : History) → Answers (usable_of (summary_of p h)) (Usable h)
+pub usable_says : (p : Position) (h : History) → Answers (usable_of (summary_of p h)) (Usable h)
 unfolding usable_of summary_of
 usable_says p h =
     answers_as
     (answers_and
     (answers_and (silent_says at_zero p h) (silent_says at_span p h))
-    (answers_and (young_says 2629440 (last_minute h) (function_in h)) (recent_says 263520 (last_minute h) (first_call h))))
+    (answers_and (young_says 2629440 (last_minute h) (function_in h)) (recent_says 263520 (last_minute h) (first_demand h))))
     (λ q. record {
       quiet = λ c. elim c as (λ c. (a : Alarm) → ¬ AlarmStands c a h) [ at_zero ↦ q.0.0 | at_span ↦ q.0.1 ];
       from = q.1.0.0;
       in_force = q.1.0.1;
       young = q.1.0.2;
-      called = q.1.1;
+      demanded = q.1.1;
     })
-    (λ u. ((u.quiet at_zero, u.quiet at_span), ((u.from, u.in_force, u.young), u.called)))
+    (λ u. ((u.quiet at_zero, u.quiet at_span), ((u.from, u.in_force, u.young), u.demanded)))

@@ -11,7 +11,7 @@ use Rattle.std.proofs.Math.Facts.{eqb_yes, eqb_no}
 use Rattle.charts.specs.ChartSoundness.{ChartSound}
 use Rattle.charts.specs.Tests.{if_all}
 use Rattle.records.specs.Record.{Record, kind, mark, minute, function_of, setting_of, waiting_of}
-use Rattle.records.specs.Kinds.{Point, at_zero, at_span, point_of, reads, resets, sets, is_pair, calibrates, is_passed, fails, empties, counts, no_values, raises_call_of, Demand}
+use Rattle.records.specs.Kinds.{Point, at_zero, at_span, point_of, reads, resets, sets, is_pair, calibrates, is_passed, fails, empties, counts, no_values, raises_demand_of, Demand}
 use Rattle.records.specs.Table.{reading_refusal_of}
 use Rattle.records.proofs.TableLaws.{zero_open, span_open}
 use Rattle.records.specs.State.{chart_of, facts_of, chart_after, turns_from, judged_at, running_at, raised_of, applied_to}
@@ -71,7 +71,7 @@ module _ (st : State) (r : Record) where
     where
       by_mark : (b : Bool) → eqb (mark r) 1 ≡ b → with_calibration judged r ≡ applied_to st r
       by_mark true e = rw (k, e)
-      by_mark false e = rw (k, e, raised_again (raises_call_of (judged_at st (minute r)) st.over) st.demand (minute r))
+      by_mark false e = rw (k, e, raised_again (raises_demand_of (judged_at st (minute r)) st.over) st.demand (minute r))
 
   pub applied_annual : kind r ≡ 6 → with_annual judged r ≡ applied_to st r
   unfolding judged_of applied_to chart_after sets reads resets is_pair empties calibrates is_passed fails counts with_annual with_failure
@@ -79,7 +79,7 @@ module _ (st : State) (r : Record) where
     where
       by_mark : (b : Bool) → eqb (mark r) 3 ≡ b → with_annual judged r ≡ applied_to st r
       by_mark true e = rw (k, e)
-      by_mark false e = rw (k, e, raised_again (raises_call_of (judged_at st (minute r)) st.over) st.demand (minute r))
+      by_mark false e = rw (k, e, raised_again (raises_demand_of (judged_at st (minute r)) st.over) st.demand (minute r))
 
   pub applied_value : kind r ≡ 7 → with_value judged r ≡ applied_to st r
   unfolding judged_of applied_to chart_after sets reads resets is_pair empties calibrates is_passed fails counts with_value

@@ -6,7 +6,7 @@ use lib.Dec.{eqb, leb}
 use borrow.Author.Tests.{eqb-true, leb-true, le-ltb}
 use Rattle.std.proofs.lemmas.Bool.{and_parts}
 use Rattle.records.specs.Record.{Record, kind, minute}
-use Rattle.records.specs.Kinds.{week_of, no_values, raises_call_of}
+use Rattle.records.specs.Kinds.{week_of, no_values, raises_demand_of}
 use Rattle.records.specs.Table.{refusal_in}
 use Rattle.records.specs.State.{facts_of, turns_from, judged_at, running_at}
 use Rattle.records.specs.StateParts.{judged_of}
@@ -32,5 +32,5 @@ in_week k st r t s a =
 
 pub in_place : (st : State) (r : Record) (m : ℕ) → turns_from st.minute (minute r) ≡ false → m ≡ minute r
     → record st { begun = true; minute = m } ≡ judged_of st (minute r)
-unfolding judged_of judged_at running_at no_values raises_call_of
+unfolding judged_of judged_at running_at no_values raises_demand_of
 in_place st r m w e = rw (e, w)

@@ -83,7 +83,7 @@ module _ (k m t : ℕ) where
         spread : (a b c d : List ℕ) → a ++ b ++ c ++ d ≡ a ++ (b ++ (c ++ d))
         spread a b c d = simp append_assoc
 
-    -- a mark of its kind, and no field_of past the end of that kind's
+    -- a mark of its kind, and no field past the end of that kind's
     pub formed_back : (leb 1 k && leb k 8) ≡ true → m ≤ mark_limit k → 8 + length fields ≤ fields_end k → formed_of (record_of k m t fields) ≡ true
     unfolding formed_of plain_of kind mark record_of
     formed_back h a b = rw (h, le-leb m (mark_limit k) a, stray) refl
@@ -103,7 +103,7 @@ module _ (k m t : ℕ) where
         stray : all_zero_of (drop (fields_end k) (parts ++ zeros)) ≡ true
         stray = rw (end, drop-append-add parts zeros past, drop-replicate {X = ℕ} past (32 - length fields) 0) (replicate_zero (32 - length fields - past))
 
-  -- a field_of, between others
+  -- a field, between others
   module _ (front rest : List ℕ) (at : ℕ) (e : at ≡ 8 + length front) where
     number_in : (new : List ℕ) (n i : ℕ) → i ≡ at + n
         → le32 (record_of k m t (front ++ new ++ rest)) i ≡ le32 (new ++ (rest ++ replicate (32 - length (front ++ new ++ rest)) 0)) n

@@ -18,22 +18,22 @@ use Rattle.records.specs.Kinds.{Point, at_zero, at_span, point_mark, deviation_o
 use Rattle.records.specs.Table.{misplaced_of, pair_of_waiting, reading_refusal_of, refusal_in}
 use Rattle.records.proofs.TableLaws.{Accepted, accepted, reading_passed, zero_open, span_open, pair_passed, pair_passes, calibration_passed, calibration_passes, stored_line}
 use Rattle.records.specs.State.{chart_of, no_pairs, initial_of, facts_of, chart_after, turns_from, judged_at, running_at, applied_to}
-use Rattle.records.specs.History.{pending_in, function_in, tally_in, weeks_over}
-use Rattle.records.specs.Summary.{Place, chart_in, summary_of}
+use Rattle.records.specs.History.{waiting_in, function_in, tally_in, weeks_over}
+use Rattle.records.specs.Summary.{Position, chart_in, summary_of}
 use Rattle.records.specs.Soundness.{SettingSound, WaitingSound, AllSound, CalibrationSound, BegunSound, Sound}
 use Rattle.records.specs.declared.state.Setting.{Setting}
 use Rattle.records.specs.declared.state.Waiting.{Waiting}
 use Rattle.records.specs.declared.state.State.{State}
 use Rattle.records.specs.declared.state.Tally.{Tally}
 
-pub none_sound : (p : Place) → Sound 0 (summary_of p [])
-unfolding summary_of chart_in pending_in function_in tally_in no_values weeks_over
+pub none_sound : (p : Position) → Sound 0 (summary_of p [])
+unfolding summary_of chart_in waiting_in function_in tally_in no_values weeks_over
 none_sound p = record {
   minute = omega arith;
   setting = tt;
   zero = blank_sound;
   span = blank_sound;
-  pending = omega arith;
+  waiting = omega arith;
   pairs = tt;
   calibration = tt;
   total = omega arith;
@@ -48,7 +48,7 @@ elsewhere analyser next edition h S = record {
   setting = S.setting;
   zero = S.zero;
   span = S.span;
-  pending = S.pending;
+  waiting = S.waiting;
   pairs = S.pairs;
   calibration = S.calibration;
   total = omega (arith, S.total);
@@ -65,14 +65,14 @@ pub initial_places : (analyser : ℕ) → length (initial_of analyser).pairs ≡
 unfolding initial_of no_pairs
 initial_places analyser = refl
 
-pub none_places : (p : Place) → length (summary_of p []).pairs ≡ 30
-unfolding summary_of pending_in
+pub none_places : (p : Position) → length (summary_of p []).pairs ≡ 30
+unfolding summary_of waiting_in
 none_places p = refl
 
 pub applied_places : (st : State) (r : Record) → length st.pairs ≡ 30 → length (applied_to st r).pairs ≡ 30
 unfolding applied_to no_pairs
 applied_places st r h =
-    if_all Full (empties r) _ _ (λ t. refl) (λ t. if_all Full (is_pair r) _ _ (λ t. length-set st.pairs st.pending (waiting_of r) ∙ h) (λ t. h))
+    if_all Full (empties r) _ _ (λ t. refl) (λ t. if_all Full (is_pair r) _ _ (λ t. length-set st.pairs st.waiting (waiting_of r) ∙ h) (λ t. h))
   where
     Full : List Waiting → Type 0
     Full ws = length ws ≡ 30
@@ -167,14 +167,14 @@ module _ (st : State) (r : Record) (A : Accepted (facts_of st) r) where
   new_setting_sound S =
       if_all SettingSound (sets r) _ _ (λ t. setting_sound r (setting_ranged_lem r A.ranged (eqb_yes t))) (λ t. setting_known st r A.placed t S)
 
-  pending_after : length st.pairs ≡ 30 → st.pending ≤ 30 → (if empties r then 0 else (if is_pair r then st.pending + 1 else st.pending)) ≤ 30
+  waiting_few : length st.pairs ≡ 30 → st.waiting ≤ 30 → (if empties r then 0 else (if is_pair r then st.waiting + 1 else st.waiting)) ≤ 30
   unfolding is_pair facts_of
-  pending_after h S =
+  waiting_few h S =
       if_all (λ (n : ℕ). n ≤ 30) (empties r) _ _ (λ t. omega arith)
       (λ t. if_all (λ (n : ℕ). n ≤ 30) (is_pair r) _ _ room (λ u. S))
     where
-      room : T (is_pair r) → st.pending + 1 ≤ 30
-      room u = omega (arith, (pair_passes (facts_of st) r (pair_passed (facts_of st) r A (eqb_yes u))).room, length-take st.pending st.pairs)
+      room : T (is_pair r) → st.waiting + 1 ≤ 30
+      room u = omega (arith, (pair_passes (facts_of st) r (pair_passed (facts_of st) r A (eqb_yes u))).room, length-take st.waiting st.pairs)
 
   waiting_after : T (is_pair r) → WaitingSound (waiting_of r)
   unfolding is_pair
@@ -189,8 +189,8 @@ module _ (m : ℕ) (st : State) (r : Record) (S : Sound m st) (A : Accepted (fac
       in_force t =
           let k = eqb_yes (and_yes (eqb (kind r) 5) (eqb (mark r) 1) t).0 in
           let P = calibration_passes (facts_of st) r (calibration_passed (facts_of st) r A k) in
-          let ws = take st.pending st.pairs in
-          let few : length (map pair_of_waiting ws) ≤ 30 = omega (arith, S.pending, length-map ws pair_of_waiting, length-take st.pending st.pairs) in
+          let ws = take st.waiting st.pairs in
+          let few : length (map pair_of_waiting ws) ≤ 30 = omega (arith, S.waiting, length-map ws pair_of_waiting, length-take st.waiting st.pairs) in
           let Q = setting_known st r A.placed (rw k tt) S.setting in
           rw (stored_line _ r P.stores)
           (fitted_ranged st.edition st.setting.requirements (z_of r) (map pair_of_waiting ws) Q.requirements (z_field r (z_ranged r A.ranged k)) (pairs_ranged ws S.pairs) few P.fits)
@@ -205,8 +205,8 @@ applied_sound m st r h S e =
       setting = new_setting_sound st r A S.setting;
       zero = chart_sound st.edition at_zero st.setting r st.zero S.zero (reading_fits st r A at_zero);
       span = chart_sound st.edition at_span st.setting r st.span S.span (reading_fits st r A at_span);
-      pending = pending_after st r A h S.pending;
-      pairs = kept_sound (empties r) (is_pair r) st.pending st.pairs (waiting_of r) S.pairs (waiting_after st r A);
+      waiting = waiting_few st r A h S.waiting;
+      pairs = kept_sound (empties r) (is_pair r) st.waiting st.pairs (waiting_of r) S.pairs (waiting_after st r A);
       calibration = calibration_sound m st r S A;
       total = w.0;
       outside = w.1;

@@ -15,5 +15,5 @@ pub thirty : (st : State) (vs : List Val) → Is (row the_type) st vs → length
 thirty st vs g = g.1.1.1.1.1.1.1.1.1.1.0.1.0.1
 
 pub waiting_figures : (st : State) {ps : List Pair} → ps ≡ map pair_of_waiting st.pairs
-    → take st.pending ps ≡ map pair_of_waiting (take st.pending st.pairs)
-waiting_figures st e = ap (take st.pending) e ∙ take-map pair_of_waiting st.pending st.pairs
+    → take st.waiting ps ≡ map pair_of_waiting (take st.waiting st.pairs)
+waiting_figures st e = ap (take st.waiting) e ∙ take-map pair_of_waiting st.waiting st.pairs

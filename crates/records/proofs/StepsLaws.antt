@@ -7,7 +7,7 @@ use Rattle.records.specs.History.{Entry, History, refusal_of}
 use Rattle.records.specs.State.{applied_to}
 use Rattle.records.specs.Soundness.{Sound}
 use Rattle.records.proofs.SoundnessLaws.{elsewhere, none_sound, none_places, applied_sound, applied_places}
-use Rattle.records.specs.Summary.{Taken, Place, entry_at, summary_of}
+use Rattle.records.specs.Summary.{Taken, Position, entry_at, summary_of}
 use Rattle.records.proofs.SummaryLaws.{refuses_alike, summary_after}
 use Rattle.records.specs.Steps.{Ran, ran_from, history_rules, state_rules}
 use Rattle.records.specs.declared.state.State.{State}
@@ -15,11 +15,11 @@ use Rattle.records.specs.declared.state.State.{State}
 -- ---- the summary of accepted records is sound
 
 -- a place in the block of an entry
-abbrev with_edition : Place → Entry → Place
+abbrev with_edition : Position → Entry → Position
 with_edition p x = record p { edition = x.edition }
 
 -- its array has thirty places
-pub summary_places : (p : Place) (h : History) → Taken h → length (summary_of p h).pairs ≡ 30
+pub summary_places : (p : Position) (h : History) → Taken h → length (summary_of p h).pairs ≡ 30
 unfolding summary_of
 summary_places p [] t = none_places p
 summary_places p (x ∷ h) t =
@@ -27,7 +27,7 @@ summary_places p (x ∷ h) t =
     subst (λ (st : State). length st.pairs ≡ 30) (summary_after q h t.1 x.bytes t.0) (applied_places (summary_of q h) x.bytes (summary_places q h t.1))
 
 -- and its counts are no more than the records
-pub summary_sound : (p : Place) (h : History) → Taken h → Sound (length h) (summary_of p h)
+pub summary_sound : (p : Position) (h : History) → Taken h → Sound (length h) (summary_of p h)
 unfolding summary_of
 summary_sound p [] t = none_sound p
 summary_sound p (x ∷ h) t =
@@ -39,10 +39,10 @@ summary_sound p (x ∷ h) t =
 -- ---- the records of a block
 
 -- the end of a list of records with the summary for the history
-abbrev pub summarised : Place → Ran History → Ran State
-summarised p x = record { kept = summary_of p x.kept; refusal = x.refusal; index = x.index }
+abbrev pub summarised : Position → Ran History → Ran State
+summarised p x = record { kept = summary_of p x.kept; refusal = x.refusal; place = x.place }
 
-pub ran_alike : (p : Place) (place : ℕ) (h : History) (rs : List Record) → Taken h
+pub ran_alike : (p : Position) (place : ℕ) (h : History) (rs : List Record) → Taken h
     → ran_from state_rules place (summary_of p h) rs ≡ summarised p (ran_from (history_rules p.edition) place h rs)
 unfolding ran_from history_rules state_rules
 ran_alike p place h [] t = refl
@@ -57,8 +57,8 @@ ran_alike p place h (r ∷ rs) t =
     A = ran_from (history_rules p.edition) (place + 1) (x ∷ h) rs
 
     go : (b : Bool) → (T b → refusal_of h x ≡ 0) → (refusal_of h x ≡ 0 → ran_from state_rules (place + 1) (summary_of p (x ∷ h)) rs ≡ summarised p A)
-        → (if b then ran_from state_rules (place + 1) (applied_to (summary_of p h) r) rs else record { kept = summary_of p h; refusal = refusal_of h x; index = place })
-        ≡ summarised p (if b then A else record { kept = h; refusal = refusal_of h x; index = place })
+        → (if b then ran_from state_rules (place + 1) (applied_to (summary_of p h) r) rs else record { kept = summary_of p h; refusal = refusal_of h x; place = place })
+        ≡ summarised p (if b then A else record { kept = h; refusal = refusal_of h x; place = place })
     go true f rest = rw (summary_after p h t r (f tt)) (rest (f tt))
     go false f rest = refl
 

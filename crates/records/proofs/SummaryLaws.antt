@@ -13,13 +13,13 @@ use Rattle.charts.specs.Readings.{Reading, differences, after_readings}
 use Rattle.charts.proofs.ChartLaws.{charted}
 use Rattle.records.specs.Lists.{those_since}
 use Rattle.records.specs.Record.{Record, kind, mark, minute, setting_of, difference_of, waiting_of}
-use Rattle.records.specs.Kinds.{Point, at_zero, at_span, point_mark, reads, resets, sets, is_pair, fails, empties, clears_calls, deviation_of, Demand}
+use Rattle.records.specs.Kinds.{Point, at_zero, at_span, point_mark, reads, resets, sets, is_pair, fails, empties, clears_demands, deviation_of, Demand}
 use Rattle.records.specs.Table.{Facts, misplaced_of, reading_refusal_of, refusal_in}
 use Rattle.records.proofs.TableLaws.{Accepted, accepted, reading_passed, pair_passed, zero_open, span_open, pair_passes}
-use Rattle.records.specs.History.{Entry, History, on, begun_in, last_minute, setting_in, started_in, readings_since, differences_in, pending_in, function_in, tally_in, judged_on, weeks_over, week_calls, calls_in, oldest, first_call, facts_in, refusal_of}
+use Rattle.records.specs.History.{Entry, History, on, begun_in, last_minute, setting_in, started_in, readings_since, differences_in, waiting_in, function_in, tally_in, judged_on, weeks_over, week_demands, demands_in, oldest, first_demand, facts_in, refusal_of}
 use Rattle.records.specs.State.{no_pair, no_pairs, initial_of, facts_of, chart_after, judged_at, running_at, raised_of, applied_to}
 use Rattle.records.specs.WeekLaws.{Ordered, tally_step}
-use Rattle.records.specs.Summary.{Taken, reading_of, chart_in, padded, demand_of, Place, entry_at, summary_of}
+use Rattle.records.specs.Summary.{Taken, reading_of, chart_in, padded, demand_of, Position, entry_at, summary_of}
 use Rattle.records.specs.declared.state.Waiting.{Waiting}
 
 -- ---- what acceptance tells of the record
@@ -60,7 +60,7 @@ module _ (h : History) (x : Entry) (e : refusal_of h x ≡ 0) where
       by at_span e m = (span_open f r e (λ z. omega arith)).started
 
   -- a pair finds a place
-  pub pair_fits : is_pair r ≡ true → length (pending_in h) < 30
+  pub pair_fits : is_pair r ≡ true → length (waiting_in h) < 30
   unfolding is_pair facts_in
   pair_fits b = (pair_passes f r (pair_passed f r told (eqb-true (kind r) 4 b))).room
 
@@ -98,7 +98,7 @@ chart_readings c h = go (started_in c h)
     go true = (charted (deviation_of c (setting_in h)) blank rs).readings ∙ ap length (differences_of (readings_since c h))
     go false = refl
 
-facts_same : (p : Place) (h : History) → facts_of (summary_of p h) ≡ facts_in p.edition h
+facts_same : (p : Position) (h : History) → facts_of (summary_of p h) ≡ facts_in p.edition h
 unfolding facts_of facts_in summary_of
 facts_same p h =
     rw (
@@ -106,11 +106,11 @@ facts_same p h =
       chart_readings at_zero h,
       chart_started at_span h,
       chart_readings at_span h,
-      take_at (pending_in h) (replicate (30 - length (pending_in h)) no_pair) (length (pending_in h)) refl,
+      take_at (waiting_in h) (replicate (30 - length (waiting_in h)) no_pair) (length (waiting_in h)) refl,
     )
 
 -- THE FIRST HALF: the summary refuses a record as the history does in a block of the place's edition
-pub refuses_alike : (p : Place) (h : History) (r : Record) → refusal_in (facts_of (summary_of p h)) r ≡ refusal_of h (entry_at p r)
+pub refuses_alike : (p : Position) (h : History) (r : Record) → refusal_in (facts_of (summary_of p h)) r ≡ refusal_of h (entry_at p r)
 refuses_alike p h r = ap (λ (f : Facts). refusal_in f r) (facts_same p h)
 
 -- ---- what an accepted record does to each field
@@ -165,26 +165,26 @@ pad_one ws w l =
     rw (e, length-append ws (w ∷ []))
     (set-append_seam ws no_pair (replicate (30 - (length ws + 1)) no_pair) w ∙ sym (append_assoc ws (w ∷ []) (replicate (30 - (length ws + 1)) no_pair)))
 
-pending_step : (h : History) (r : Entry)
-    → (if empties r.bytes then 0 else (if is_pair r.bytes then length (pending_in h) + 1 else length (pending_in h))) ≡ length (pending_in (r ∷ h))
-unfolding pending_in
-pending_step h r = go (empties r.bytes) (is_pair r.bytes)
+waiting_step : (h : History) (r : Entry)
+    → (if empties r.bytes then 0 else (if is_pair r.bytes then length (waiting_in h) + 1 else length (waiting_in h))) ≡ length (waiting_in (r ∷ h))
+unfolding waiting_in
+waiting_step h r = go (empties r.bytes) (is_pair r.bytes)
   where
-    go : (a b : Bool) → (if a then 0 else (if b then length (pending_in h) + 1 else length (pending_in h))) ≡ length (if a then [] else (if b then pending_in h ++ (waiting_of r.bytes ∷ []) else pending_in h))
+    go : (a b : Bool) → (if a then 0 else (if b then length (waiting_in h) + 1 else length (waiting_in h))) ≡ length (if a then [] else (if b then waiting_in h ++ (waiting_of r.bytes ∷ []) else waiting_in h))
     go true b = refl
-    go false true = sym (length-append (pending_in h) (waiting_of r.bytes ∷ []))
+    go false true = sym (length-append (waiting_in h) (waiting_of r.bytes ∷ []))
     go false false = refl
 
 pairs_step : (h : History) (r : Entry) → refusal_of h r ≡ 0
-    → (if empties r.bytes then no_pairs else (if is_pair r.bytes then set (padded (pending_in h)) (length (pending_in h)) (waiting_of r.bytes) else padded (pending_in h))) ≡ padded (pending_in (r ∷ h))
-unfolding pending_in no_pairs
+    → (if empties r.bytes then no_pairs else (if is_pair r.bytes then set (padded (waiting_in h)) (length (waiting_in h)) (waiting_of r.bytes) else padded (waiting_in h))) ≡ padded (waiting_in (r ∷ h))
+unfolding waiting_in no_pairs
 pairs_step h r e = go (empties r.bytes) (is_pair r.bytes) (pair_fits h r e)
   where
-    go : (a b : Bool) → (b ≡ true → length (pending_in h) < 30)
-        → (if a then replicate 30 no_pair else (if b then set (padded (pending_in h)) (length (pending_in h)) (waiting_of r.bytes) else padded (pending_in h)))
-        ≡ padded (if a then [] else (if b then pending_in h ++ (waiting_of r.bytes ∷ []) else pending_in h))
+    go : (a b : Bool) → (b ≡ true → length (waiting_in h) < 30)
+        → (if a then replicate 30 no_pair else (if b then set (padded (waiting_in h)) (length (waiting_in h)) (waiting_of r.bytes) else padded (waiting_in h)))
+        ≡ padded (if a then [] else (if b then waiting_in h ++ (waiting_of r.bytes ∷ []) else waiting_in h))
     go true b f = refl
-    go false true f = pad_one (pending_in h) (waiting_of r.bytes) (f refl)
+    go false true f = pad_one (waiting_in h) (waiting_of r.bytes) (f refl)
     go false false f = refl
 
 -- ---- the calls
@@ -203,15 +203,15 @@ raised_twice None m = refl
 raised_twice (Some x) m = refl
 
 demand_step : (h : History) (r : Entry)
-    → (if clears_calls r.bytes then None else (if fails r.bytes || week_calls h r then raised_of (demand_of (first_call h)) (minute r.bytes) else demand_of (first_call h))) ≡ demand_of (first_call (r ∷ h))
-unfolding first_call calls_in
-demand_step h r = go (clears_calls r.bytes) (fails r.bytes) (week_calls h r)
+    → (if clears_demands r.bytes then None else (if fails r.bytes || week_demands h r then raised_of (demand_of (first_demand h)) (minute r.bytes) else demand_of (first_demand h))) ≡ demand_of (first_demand (r ∷ h))
+unfolding first_demand demands_in
+demand_step h r = go (clears_demands r.bytes) (fails r.bytes) (week_demands h r)
   where
     m : ℕ
     m = minute r.bytes
 
     ms : List ℕ
-    ms = calls_in h
+    ms = demands_in h
 
     go : (a b w : Bool)
         → (if a then None else (if b || w then raised_of (demand_of (oldest ms)) m else demand_of (oldest ms)))
@@ -226,15 +226,15 @@ demand_step h r = go (clears_calls r.bytes) (fails r.bytes) (week_calls h r)
 
 -- THE SECOND HALF: where a record of the open block is accepted, the state after it is the summary of the longer history. A field whose history recurs as the
 -- state steps has no law of its own.
-pub summary_after : (p : Place) (h : History) → Taken h → (r : Record) → refusal_of h (entry_at p r) ≡ 0
+pub summary_after : (p : Position) (h : History) → Taken h → (r : Record) → refusal_of h (entry_at p r) ≡ 0
     → applied_to (summary_of p h) r ≡ summary_of p (entry_at p r ∷ h)
-unfolding applied_to summary_of judged_at judged_on running_at weeks_over week_calls setting_in function_in
+unfolding applied_to summary_of judged_at judged_on running_at weeks_over week_demands setting_in function_in
 summary_after p h t r e =
     let x = entry_at p r in
     rw (
       chart_step at_zero h x e,
       chart_step at_span h x e,
-      pending_step h x,
+      waiting_step h x,
       pairs_step h x e,
       tally_step x h (in_order h x e, ordered h t),
       demand_step h x,
@@ -243,5 +243,5 @@ summary_after p h t r e =
 
 -- a fresh state is the summary of no record
 pub summary_none : (analyser : ℕ) → initial_of analyser ≡ summary_of (record { analyser = analyser; next = 0; edition = 0 }) []
-unfolding initial_of summary_of no_pairs setting_in chart_in pending_in function_in tally_in weeks_over first_call calls_in
+unfolding initial_of summary_of no_pairs setting_in chart_in waiting_in function_in tally_in weeks_over first_demand demands_in
 summary_none analyser = refl

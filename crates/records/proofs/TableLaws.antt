@@ -81,7 +81,7 @@ module _ (f : Facts) (r : Record) (e : reading_refusal_of f r ≡ 0) where
   span_open m = chart_open f.span_started f.span_readings (rw (ne_eqb (mark r) 0 m) at e)
 
 pub record PairPasses (f : Facts) (r : Record) : Type 0 where
-  pub room : length f.pending < 30
+  pub room : length f.waiting < 30
   pub times : times_fit_of f r ≡ true
   pub starts : length_of r ≤ minute r
   pub coverage : le_z (coverage_of r) (pos 90) ≡ false
@@ -89,13 +89,13 @@ pub record PairPasses (f : Facts) (r : Record) : Type 0 where
 pub pair_passes : (f : Facts) (r : Record) → pair_refusal_of f r ≡ 0 → PairPasses f r
 unfolding pair_refusal_of times_fit_of
 pair_passes f r e =
-    let a = row_passed 18 (leb 30 (length f.pending)) tt e in
+    let a = row_passed 18 (leb 30 (length f.waiting)) tt e in
     let b = row_passed 16 (not (times_fit_of f r)) tt a.1 in
     let t = not-false (times_fit_of f r) b.0 in
     let u = and_parts (leb (4 * response_of f.setting) (length_of r)) _ t in
-    let v = and_parts (leb (length_of r) (minute r)) (follows (last_of f.pending) (minute r - length_of r) (length_of r)) u.1 in
+    let v = and_parts (leb (length_of r) (minute r)) (follows (last_of f.waiting) (minute r - length_of r) (length_of r)) u.1 in
     record {
-      room = leb-false 30 (length f.pending) a.0;
+      room = leb-false 30 (length f.waiting) a.0;
       times = t;
       starts = leb-true (length_of r) (minute r) v.0;
       coverage = unfit 17 (le_z (coverage_of r) (pos 90)) tt b.1;
@@ -105,11 +105,11 @@ pair_passes f r e =
 
 -- the fit over the pairs that wait
 abbrev pub fit_over : Facts → Record → Fitted
-fit_over f r = fit_of f.edition f.setting.requirements (z_of r) (map pair_of_waiting f.pending)
+fit_over f r = fit_of f.edition f.setting.requirements (z_of r) (map pair_of_waiting f.waiting)
 
 pub record CalibrationPasses (f : Facts) (r : Record) : Type 0 where
-  pub counted : count_fits_of (length f.pending) ≡ true
-  pub days : days_fit_of f.pending ≡ true
+  pub counted : count_fits_of (length f.waiting) ≡ true
+  pub days : days_fit_of f.waiting ≡ true
   pub fitted : calibration_of f (z_of r) ≡ fit_over f r
   pub fits : (fit_over f r).refusal ≡ 0
   pub stores : stores_fit_of (fit_over f r) r ≡ true
@@ -125,12 +125,12 @@ calibration_passes f r e =
     let c = calibration_of f (z_of r) in
     let o = rows_passed c.refusal e in
     let s = unfit 25 (not (stores_fit_of c r)) tt o.1 in
-    let a = passed_fit (not (count_fits_of (length f.pending))) 20 (if not (days_fit_of f.pending) then refused_fit 21 else fit_over f r) (omega arith) o.0 in
-    let b = passed_fit (not (days_fit_of f.pending)) 21 (fit_over f r) (omega arith) (sym (ap (λ (t : Fitted). t.refusal) a.1) ∙ o.0) in
+    let a = passed_fit (not (count_fits_of (length f.waiting))) 20 (if not (days_fit_of f.waiting) then refused_fit 21 else fit_over f r) (omega arith) o.0 in
+    let b = passed_fit (not (days_fit_of f.waiting)) 21 (fit_over f r) (omega arith) (sym (ap (λ (t : Fitted). t.refusal) a.1) ∙ o.0) in
     let g : c ≡ fit_over f r = a.1 ∙ b.1 in
     record {
-      counted = not-false (count_fits_of (length f.pending)) a.0;
-      days = not-false (days_fit_of f.pending) b.0;
+      counted = not-false (count_fits_of (length f.waiting)) a.0;
+      days = not-false (days_fit_of f.waiting) b.0;
       fitted = g;
       fits = sym (ap (λ (t : Fitted). t.refusal) g) ∙ o.0;
       stores = sym (ap (λ (t : Fitted). stores_fit_of t r) g) ∙ not-false (stores_fit_of c r) s;
@@ -156,12 +156,12 @@ module _ (edition : ℕ) (q : Requirements) (z : ℤ) (ps : List Pair) (h : leng
   unfolding fit_of
   few_fit = if_all Few (not (count_fits_of (length ps))) _ _ (λ t. omega arith) (λ t. few_from)
 
-pub calibration_count : (f : Facts) (z : ℤ) → length f.pending ≤ 30 → (calibration_of f z).count ≤ 30
+pub calibration_count : (f : Facts) (z : ℤ) → length f.waiting ≤ 30 → (calibration_of f z).count ≤ 30
 unfolding calibration_of
 calibration_count f z h =
-    if_all Few (not (count_fits_of (length f.pending))) _ _ (λ t. omega arith)
-    (λ t. if_all Few (not (days_fit_of f.pending)) _ _ (λ u. omega arith)
-    (λ u. few_fit f.edition f.setting.requirements z (map pair_of_waiting f.pending) (omega (arith, length-map f.pending pair_of_waiting))))
+    if_all Few (not (count_fits_of (length f.waiting))) _ _ (λ t. omega arith)
+    (λ t. if_all Few (not (days_fit_of f.waiting)) _ _ (λ u. omega arith)
+    (λ u. few_fit f.edition f.setting.requirements z (map pair_of_waiting f.waiting) (omega (arith, length-map f.waiting pair_of_waiting))))
 
 -- the stored function is the one worked out
 pub stored_line : (c : Fitted) (r : Record) → stores_fit_of c r ≡ true → line_of (function_of r) ≡ c.line

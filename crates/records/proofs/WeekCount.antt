@@ -1,9 +1,10 @@
 -- The weeks over 5 percent, read a second way: week by week through the calendar, and a week that ends raises a call by that count. Of a history whose
 -- minutes never fall, as those of accepted records never do, both readings say the same.
-use Rattle.std.specs.Prelude.{◌≡◌, refl, Bool, true, false, not, ◌&&◌, ◌||◌, [], ◌∷◌, ℕ, zero, suc, ◌<◌, ◌≤◌, eqb, ltb, T, if◌then◌else◌}
-use Rattle.std.proofs.Common.{sym, ap, ◌∙◌, arith, ltb→lt, nltb→le, eqb→eq}
-use Rattle.records.specs.Kinds.{starts_period, counts, no_values, one_more, exceeds_of, raises_call_of}
-use Rattle.records.specs.History.{Entry, History, own_week, last_week, outside_when, tally_in, turns, judged_on, weeks_over, week_calls}
+use Rattle.std.specs.Prelude.{◌≡◌, refl, Bool, true, false, not, ◌&&◌, ◌||◌, List, [], ◌∷◌, ◌++◌, ℕ, zero, suc, ◌<◌, ◌≤◌, eqb, ltb, T, if◌then◌else◌}
+use Rattle.std.proofs.Common.{sym, ap, ◌∙◌, arith, add-one, ltb→lt, nltb→le, eqb→eq}
+use Rattle.records.specs.Kinds.{starts_period, counts, no_values, one_more, exceeds_of, raises_demand_of, clears_demands, fails}
+use Rattle.records.specs.Record.{minute}
+use Rattle.records.specs.History.{Entry, History, own_week, last_week, outside_when, tally_in, turns, judged_on, weeks_over, week_demands, value_of_week, demands_in}
 use Rattle.records.specs.Summary.{Taken}
 use Rattle.records.specs.WeekLaws.{Ordered, none_later}
 use Rattle.records.proofs.SummaryLaws.{ordered}
@@ -104,12 +105,12 @@ same_weeks [] o = refl
 same_weeks (r ∷ h) o = rw (judged_exceeds 5 refl h r, same_weeks h o.1) (sym (weeks_step r h o))
 
 -- r is of a later week, and by the calendar the last record's week calls: over 40 percent, or the sixth of its period over 5 percent
-abbrev pub calls_counted : History → Entry → Bool
-calls_counted h r = turns h r && (week_exceeds 40 h (last_week h) || week_exceeds 5 h (last_week h) && eqb (weeks_counted h) 5)
+abbrev pub demands_counted : History → Entry → Bool
+demands_counted h r = turns h r && (week_exceeds 40 h (last_week h) || week_exceeds 5 h (last_week h) && eqb (weeks_counted h) 5)
 
-pub same_calls : (h : History) (r : Entry) → Ordered h → week_calls h r ≡ calls_counted h r
-unfolding week_calls raises_call_of no_values
-same_calls h r o = rw (judged_exceeds 40 refl h r, judged_exceeds 5 refl h r, same_weeks h o) (go (turns h r))
+pub same_demands : (h : History) (r : Entry) → Ordered h → week_demands h r ≡ demands_counted h r
+unfolding week_demands raises_demand_of no_values
+same_demands h r o = rw (judged_exceeds 40 refl h r, judged_exceeds 5 refl h r, same_weeks h o) (go (turns h r))
   where
     a : Bool
     a = week_exceeds 40 h (last_week h)
@@ -125,5 +126,56 @@ same_calls h r o = rw (judged_exceeds 40 refl h r, judged_exceeds 5 refl h r, sa
 pub taken_weeks : (h : History) → Taken h → weeks_over h ≡ weeks_counted h
 taken_weeks h t = same_weeks h (ordered h t)
 
-pub taken_calls : (h : History) (r : Entry) → Taken h → week_calls h r ≡ calls_counted h r
-taken_calls h r t = same_calls h r (ordered h t)
+pub taken_demands : (h : History) (r : Entry) → Taken h → week_demands h r ≡ demands_counted h r
+taken_demands h r t = same_demands h r (ordered h t)
+
+-- ---- the values of a week, counted apart
+
+-- of how many records of the period p holds; p may look at the records before
+abbrev pub count_in : (History → Entry → Bool) → History → ℕ
+count_in p [] = 0
+count_in p (r ∷ h) = if starts_period r.bytes then 0 else (if p h r then suc (count_in p h) else count_in p h)
+
+abbrev pub of_week : ℕ → History → Entry → Bool
+of_week w h r = value_of_week w r
+
+abbrev pub outside_of_week : ℕ → History → Entry → Bool
+outside_of_week w h r = value_of_week w r && outside_when h r
+
+pub tally_counted : (w : ℕ) (h : History) → tally_in w h ≡ record { total = count_in (of_week w) h; outside = count_in (outside_of_week w) h }
+unfolding tally_in no_values one_more
+tally_counted w [] = refl
+tally_counted w (r ∷ h) = go (starts_period r.bytes) (value_of_week w r) (outside_when h r) (tally_counted w h)
+  where
+    n : ℕ
+    n = count_in (of_week w) h
+
+    m : ℕ
+    m = count_in (outside_of_week w) h
+
+    go : (a b c : Bool) → tally_in w h ≡ record { total = n; outside = m }
+        → (if a then no_values else (if b then one_more c (tally_in w h) else tally_in w h))
+        ≡ record { total = if a then 0 else (if b then suc n else n); outside = if a then 0 else (if b && c then suc m else m) }
+    go true b c e = refl
+    go false true true e = rw (e, add-one, add-one) refl
+    go false true false e = rw (e, add-one) refl
+    go false false c e = e
+
+-- ---- the minutes of the demands, with those of weeks by the calendar
+
+abbrev pub called_at : Bool → ℕ → List ℕ
+called_at b m = if b then m ∷ [] else []
+
+unfoldable pub demands_by_calendar : History → List ℕ
+demands_by_calendar [] = []
+demands_by_calendar (r ∷ h) =
+    if clears_demands r.bytes then []
+    else called_at (fails r.bytes) (minute r.bytes) ++ called_at (demands_counted h r) (minute r.bytes) ++ demands_by_calendar h
+
+pub same_list : (h : History) → Ordered h → demands_in h ≡ demands_by_calendar h
+unfolding demands_in demands_by_calendar
+same_list [] o = refl
+same_list (r ∷ h) o = rw (same_demands h r o.1, same_list h o.1) refl
+
+pub taken_list : (h : History) → Taken h → demands_in h ≡ demands_by_calendar h
+taken_list h t = same_list h (ordered h t)

@@ -45,7 +45,9 @@ written_whole bytes new h =
 
 -- what is written into zeros, with those that are left past it
 pub zeros_written : (n : ℕ) (new : List ℕ) → written (replicate n 0) 0 new ≡ new ++ replicate (n - length new) 0
-zeros_written n new = let start : 0 + length new ≡ length new = omega arith in rw (start, drop-replicate {X = ℕ} (length new) n 0) refl
+zeros_written n new =
+    let start : 0 + length new ≡ length new = omega arith in
+    rw (start, drop-replicate {X = ℕ} (length new) n 0) refl
 
 -- ---- numbers
 

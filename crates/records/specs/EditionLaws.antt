@@ -10,7 +10,7 @@ use Rattle.records.specs.Lists.{since, those, any, those_since}
 use Rattle.records.specs.Record.{Record, difference_of, waiting_of}
 use Rattle.records.specs.Kinds.{Point, at_zero, at_span, reads, resets, is_pair, empties, starts_period, setting_after, calibration_after, no_values, one_more}
 use Rattle.records.specs.Table.{Facts, refusal_in}
-use Rattle.records.specs.History.{Entry, History, on, setting_in, last_minute, started_in, differences_in, AlarmStands, pending_in, function_in, value_of_week, outside_when, tally_in, begun_in, facts_in, refusal_of}
+use Rattle.records.specs.History.{Entry, History, on, setting_in, last_minute, started_in, differences_in, AlarmStands, waiting_in, function_in, value_of_week, outside_when, tally_in, begun_in, facts_in, refusal_of}
 use Rattle.records.specs.declared.state.Waiting.{Waiting}
 use Rattle.records.specs.declared.state.Tally.{Tally}
 
@@ -18,7 +18,8 @@ use Rattle.records.specs.declared.state.Tally.{Tally}
 abbrev pub without_editions : History → List Record
 without_editions h = map (λ (r : Entry). r.bytes) h
 
--- what two histories have in common: the setting and the last minute, the differences and the alarms at each chart, the
+-- what two histories have in common: the setting and the last minute, the differences and the alarms at each chart,
+-- the
 -- pairs that wait, the function in force and how many values of each week count; and of a next record, by which row it
 -- is refused and whether it is a value outside
 pub record Alike (h k : History) : Type 0 where
@@ -28,7 +29,7 @@ pub record Alike (h k : History) : Type 0 where
   pub differences : (c : Point) → differences_in c h ≡ differences_in c k
   pub alarms : (c : Point) (a : Alarm)
       → (AlarmStands c a h → AlarmStands c a k) × (AlarmStands c a k → AlarmStands c a h)
-  pub pending : pending_in h ≡ pending_in k
+  pub waiting : waiting_in h ≡ waiting_in k
   pub function : function_in h ≡ function_in k
   pub total : (w : ℕ) → (tally_in w h).total ≡ (tally_in w k).total
   pub refusal : (r : Entry) → refusal_of h r ≡ refusal_of k r
@@ -84,13 +85,13 @@ plain_differences : (c : Point) (h : History) → differences_in c h ≡ differe
 unfolding differences_in
 plain_differences c h = rw (sym (plain_any (resets c) h), sym (plain_those difference_of (reads c) (resets c) h))
 
-plain_pending : (h : History) → pending_in h ≡ pending_in (plain h)
-unfolding pending_in
-plain_pending [] = refl
-plain_pending (r ∷ h) =
+plain_waiting : (h : History) → waiting_in h ≡ waiting_in (plain h)
+unfolding waiting_in
+plain_waiting [] = refl
+plain_waiting (r ∷ h) =
     ap (λ (ws : List Waiting).
     if empties r.bytes then [] else (if is_pair r.bytes then ws ++ (waiting_of r.bytes ∷ []) else ws))
-    (plain_pending h)
+    (plain_waiting h)
 
 plain_function : (h : History) → function_in h ≡ function_in (plain h)
 unfolding function_in
@@ -133,7 +134,7 @@ plain_facts e h =
       sym (plain_differences at_zero h),
       sym (plain_any (resets at_span) h),
       sym (plain_differences at_span h),
-      sym (plain_pending h),
+      sym (plain_waiting h),
       sym (plain_function h),
     )
 
@@ -145,7 +146,7 @@ straight_through h k e = record {
   started = started;
   differences = differences;
   alarms = λ c a. (rw (setting, differences c) (λ x. x), rw (setting, differences c) (λ x. x));
-  pending = by pending_in plain_pending;
+  waiting = by waiting_in plain_waiting;
   function = function;
   total = λ w. by (λ (h : History). (tally_in w h).total) (plain_total w);
   refusal = λ r. ap (λ (f : Facts). refusal_in f r.bytes) (by (facts_in r.edition) (plain_facts r.edition));

@@ -1,12 +1,13 @@
 -- What the accepted records say, and nothing else: paper 01, 'Charts', 'Calibration', 'Weeks and calls (6.4.4)' and
--- 'Usable', paper 02, C-11 to C-13, and the mission's statement 3. A history is the list of accepted records, each with
+-- 'Usable', paper 02, C-11 to C-13, and the mission's statement 3. A history is the list of accepted records, each
+-- with
 -- the edition of its block, newest first, so that "since the last" is plain recursion.
 use Rattle.std.specs.Prelude.{◌≡◌, Bool, true, false, ◌&&◌, List, [], ◌∷◌, ◌++◌, map, ℕ, suc, ◌-◌, ◌≤◌, ltb, eqb, ℤ, length, if◌then◌else◌, None, Some}
 use Rattle.std.proofs.Math.Option.{Option, none, some, get_or}
 use Rattle.charts.specs.Runs.{Alarm, Stands}
 use Rattle.records.specs.Lists.{since, those, any}
 use Rattle.records.specs.Record.{Record, minute, difference_of, waiting_of}
-use Rattle.records.specs.Kinds.{Point, no_setting, at_zero, at_span, reads, resets, is_pair, fails, empties, clears_calls, starts_period, counts, setting_after, calibration_after, deviation_of, week_of, outside_by, no_values, one_more, exceeds_of, raises_call_of, Calibration}
+use Rattle.records.specs.Kinds.{Point, no_setting, at_zero, at_span, reads, resets, is_pair, fails, empties, clears_demands, starts_period, counts, setting_after, calibration_after, deviation_of, week_of, outside_by, no_values, one_more, exceeds_of, raises_demand_of, Calibration}
 use Rattle.records.specs.Table.{Facts, refusal_in}
 use Rattle.records.specs.declared.state.Setting.{Setting}
 use Rattle.records.specs.declared.state.Waiting.{Waiting}
@@ -55,12 +56,12 @@ AlarmStands c a h = Stands a (deviation_of c (setting_in h)) (differences_in c h
 -- ---- pairs and the function in force
 
 -- the pairs that wait, oldest first
-unfoldable pub pending_in : History → List Waiting
-pending_in [] = []
-pending_in (r ∷ h) =
+unfoldable pub waiting_in : History → List Waiting
+waiting_in [] = []
+waiting_in (r ∷ h) =
     if empties r.bytes then []
-    else (if is_pair r.bytes then pending_in h ++ (waiting_of r.bytes ∷ [])
-    else pending_in h)
+    else (if is_pair r.bytes then waiting_in h ++ (waiting_of r.bytes ∷ [])
+    else waiting_in h)
 
 -- the newest passed calibration, with its stored figures
 unfoldable pub function_in : History → Calibration
@@ -76,7 +77,8 @@ own_week r = week_of (minute r.bytes)
 abbrev pub value_of_week : ℕ → Entry → Bool
 value_of_week w r = counts r.bytes && eqb (own_week r) w
 
--- It was outside when it was applied. It is judged by its own block's edition, against the top in force; a week's tally
+-- It was outside when it was applied. It is judged by its own block's edition, against the top in force; a week's
+-- tally
 -- may have values of both editions (paper 02, C-13).
 abbrev pub outside_when : History → Entry → Bool
 outside_when h r = outside_by r.edition (function_in h) (setting_in h) r.bytes
@@ -112,28 +114,28 @@ weeks_over (r ∷ h) =
 -- ---- calls for a new calibration
 
 -- the week that is judged on r raises a call
-unfoldable pub week_calls : History → Entry → Bool
-week_calls h r = raises_call_of (judged_on h r) (weeks_over h)
+unfoldable pub week_demands : History → Entry → Bool
+week_demands h r = raises_demand_of (judged_on h r) (weeks_over h)
 
 -- a minute, where there is a call at it
-abbrev called : Bool → ℕ → List ℕ
-called b m = if b then m ∷ [] else []
+abbrev demanded : Bool → ℕ → List ℕ
+demanded b m = if b then m ∷ [] else []
 
 -- the minutes of the calls since they were last cleared, newest first: of a record's own two, its failed closing is
 -- newer than the week judged on it
-unfoldable pub calls_in : History → List ℕ
-calls_in [] = []
-calls_in (r ∷ h) =
-    if clears_calls r.bytes then []
-    else called (fails r.bytes) (minute r.bytes) ++ called (week_calls h r) (minute r.bytes) ++ calls_in h
+unfoldable pub demands_in : History → List ℕ
+demands_in [] = []
+demands_in (r ∷ h) =
+    if clears_demands r.bytes then []
+    else demanded (fails r.bytes) (minute r.bytes) ++ demanded (week_demands h r) (minute r.bytes) ++ demands_in h
 
 -- the last of a list
 abbrev pub oldest : List ℕ → Option ℕ
 oldest [] = none
 oldest (m ∷ ms) = some (get_or (oldest ms) m)
 
-unfoldable pub first_call : History → Option ℕ
-first_call h = oldest (calls_in h)
+unfoldable pub first_demand : History → Option ℕ
+first_demand h = oldest (demands_in h)
 
 -- ---- usable
 
@@ -153,7 +155,7 @@ pub record Usable (h : History) : Type 0 where
   pub from : ℕ
   pub in_force : minute_of (function_in h) ≡ some from
   pub young : last_minute h - from ≤ 2629440
-  pub called : Recent 263520 (last_minute h) (first_call h)
+  pub demanded : Recent 263520 (last_minute h) (first_demand h)
 
 -- ---- the table's rows, asked of a history
 
@@ -171,7 +173,7 @@ facts_in edition h = record {
   zero_readings = length (differences_in at_zero h);
   span_started = started_in at_span h;
   span_readings = length (differences_in at_span h);
-  pending = pending_in h;
+  waiting = waiting_in h;
   calibration = function_in h;
   edition = edition;
 }

@@ -71,8 +71,8 @@ abbrev pub comes_into_force : Record → Bool
 comes_into_force r = calibrates r
 
 -- the calls up to it are cleared
-abbrev pub clears_calls : Record → Bool
-clears_calls r = calibrates r
+abbrev pub clears_demands : Record → Bool
+clears_demands r = calibrates r
 
 -- a period starts after it (paper 01: a stretch), with no value and no week
 abbrev pub starts_period : Record → Bool
@@ -120,7 +120,7 @@ unfoldable pub line_of : Function → Line
 line_of f = record { slope = f.slope; intercept = f.intercept }
 
 -- A value lies outside the range of the function in force: its c, rounded by the edition of the value's own block, is
--- negative or exceeds_of the top as it is stored. Without a function row 19 stops it, so that the first line is never
+-- negative or exceeds the top as it is stored. Without a function row 19 stops it, so that the first line is never
 -- asked.
 unfoldable pub outside_by : ℕ → Calibration → Setting → Record → Bool
 outside_by edition None s r = false
@@ -137,11 +137,12 @@ no_values = record { total = 0; outside = 0 }
 unfoldable pub one_more : Bool → Tally → Tally
 one_more outside t = record { total = t.total + 1; outside = if outside then t.outside + 1 else t.outside }
 
--- more than a point_mark of percent are outside
+-- more than a number of percent are outside
 abbrev pub exceeds_of : ℕ → Tally → Bool
 exceeds_of percent t = ltb (percent * t.total) (100 * t.outside)
 
--- A judged week raises a call: over 40 percent, or over 5 percent as the sixth such week of its period. Paper 02, C-11,
+-- A judged week raises a call: over 40 percent, or over 5 percent as the sixth such week of its period. Paper 02,
+-- C-11,
 -- has a week not judged where none of its values counts: with no values no percentage is exceeded.
-unfoldable pub raises_call_of : Tally → ℕ → Bool
-raises_call_of t over = exceeds_of 40 t || exceeds_of 5 t && eqb over 5
+unfoldable pub raises_demand_of : Tally → ℕ → Bool
+raises_demand_of t over = exceeds_of 40 t || exceeds_of 5 t && eqb over 5

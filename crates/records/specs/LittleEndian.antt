@@ -57,7 +57,8 @@ pub cast_signed_64 : (n : ℕ) → cast_signed w64 n ≡ signed64 n
 unfolding signed64
 cast_signed_64 n = by_half (ltb n 9223372036854775808)
   where
-    by_half : (t : Bool) → sel t (pos n) (negsuc (18446744073709551616 - suc n)) ≡ cond t (pos n) (negsuc (18446744073709551615 - n))
+    by_half : (t : Bool)
+        → sel t (pos n) (negsuc (18446744073709551616 - suc n)) ≡ cond t (pos n) (negsuc (18446744073709551615 - n))
     by_half true = refl
     by_half false = ap negsuc (omega arith)
 

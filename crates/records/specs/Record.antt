@@ -1,4 +1,5 @@
--- Paper 01, 'Records', and paper 02, C-11: a record is forty bytes. What stands where, which bytes have to be zero, and
+-- Paper 01, 'Records', and paper 02, C-11: a record is forty bytes. What stands where, which bytes have to be zero,
+-- and
 -- which ranges the fields have.
 use Rattle.std.specs.Prelude.{Bool, true, ◌&&◌, ◌||◌, List, ℕ, ◌+◌, ◌-◌, ◌*◌, leb, ltb, eqb, ℤ, pos, negsuc, neg_ℤ, nat_abs, ◌-ℤ◌, drop, if◌then◌else◌}
 use Rattle.calibration.specs.Pairs.{between_of, pair_ranged_of, conditions_ranged_of, requirements_ranged_of, z_ranged_of}
@@ -35,7 +36,7 @@ signed32 n = if ltb n 2147483648 then pos n else negsuc (4294967295 - n)
 unfoldable pub signed64 : ℕ → ℤ
 signed64 n = if ltb n 9223372036854775808 then pos n else negsuc (18446744073709551615 - n)
 
--- a signed field_of of four bytes, and one of eight
+-- a signed field of four bytes, and one of eight
 unfoldable pub field_of : Record → ℕ → ℤ
 field_of r at = signed32 (le32 r at)
 
@@ -78,7 +79,12 @@ unfoldable pub requirements_of : Record → Requirements
 requirements_of r = record { limit = field_of r 8; uncertainty = field_of r 12; oxygen = field_of r 24 }
 
 unfoldable pub setting_of : Record → Setting
-setting_of r = record { requirements = requirements_of r; zero = nat_abs (field_of r 16); span = nat_abs (field_of r 20); response = nat_abs (field_of r 28) }
+setting_of r = record {
+  requirements = requirements_of r;
+  zero = nat_abs (field_of r 16);
+  span = nat_abs (field_of r 20);
+  response = nat_abs (field_of r 28);
+}
 
 -- kind 2: the difference, the reading less its reference
 unfoldable pub difference_of : Record → ℤ
@@ -86,7 +92,12 @@ difference_of r = field_of r 8 -ℤ field_of r 12
 
 -- t, p, h and o in four fields from a place on
 unfoldable pub conditions_of : Record → ℕ → Conditions
-conditions_of r at = record { temperature = field_of r at; pressure = field_of r (at + 4); water = field_of r (at + 8); oxygen = field_of r (at + 12) }
+conditions_of r at = record {
+  temperature = field_of r at;
+  pressure = field_of r (at + 4);
+  water = field_of r (at + 8);
+  oxygen = field_of r (at + 12);
+}
 
 -- kind 4: length, coverage, and the pair with its times; the record's minute is when the pair ends
 unfoldable pub length_of : Record → ℕ
@@ -106,7 +117,12 @@ unfoldable pub z_of : Record → ℤ
 z_of r = field_of r 8
 
 unfoldable pub function_of : Record → Function
-function_of r = record { slope = field_of r 12; intercept = long_field_of r 16; top = record { 0 = field_of r 24 }; minute = minute r }
+function_of r = record {
+  slope = field_of r 12;
+  intercept = long_field_of r 16;
+  top = record { 0 = field_of r 24 };
+  minute = minute r;
+}
 
 -- kind 7: the signal, and its conditions
 unfoldable pub signal_of : Record → ℤ
@@ -124,7 +140,9 @@ setting_ranged_of r =
     && (between_of (pos 1) (pos 10000) (field_of r 20) && between_of (pos 0) (pos 60) (field_of r 28)))
 
 unfoldable pub reading_ranged_of : Record → Bool
-reading_ranged_of r = between_of (neg_ℤ (pos 400000)) (pos 400000) (field_of r 8) && between_of (pos 0) (pos 400000) (field_of r 12)
+reading_ranged_of r =
+    between_of (neg_ℤ (pos 400000)) (pos 400000) (field_of r 8)
+    && between_of (pos 0) (pos 400000) (field_of r 12)
 
 unfoldable pub waiting_ranged_of : Record → Bool
 waiting_ranged_of r =
@@ -134,7 +152,7 @@ waiting_ranged_of r =
 unfoldable pub value_ranged_of : Record → Bool
 value_ranged_of r = between_of (pos 0) (pos 400000) (signal_of r) && conditions_ranged_of (value_conditions r)
 
--- every field_of that has a range is in it; of a closing that is Z alone
+-- every field that has a range is in it; of a closing that is Z alone
 unfoldable pub ranged_of : Record → Bool
 ranged_of r =
     if eqb (kind r) 1 then setting_ranged_of r

@@ -1,5 +1,6 @@
 -- The range in which a state's arithmetic fits its fields: the code's own, with no sentence of paper 01. Every state
--- that calls leave is in it, and others may be. The edition may be any number, since none overflows anything (paper 02,
+-- that calls leave is in it, and others may be. The edition may be any number, since none overflows anything (paper
+-- 02,
 -- C-12). `most` bounds what is counted record by record: a state that has taken n blocks is sound for 12·n.
 use Rattle.std.specs.Prelude.{Bool, true, false, ◌&&◌, List, [], ◌∷◌, ℕ, ◌≤◌, leb, take, None, Some}
 use Rattle.charts.specs.Tests.{Answers, answers_le, answers_and, answers_as}
@@ -95,8 +96,8 @@ pub record Sound (most : ℕ) (st : State) : Type 0 where
   pub setting : BegunSound st.begun st.setting
   pub zero : ChartSound st.zero
   pub span : ChartSound st.span
-  pub pending : st.pending ≤ 30
-  pub pairs : AllSound (take st.pending st.pairs)
+  pub waiting : st.waiting ≤ 30
+  pub pairs : AllSound (take st.waiting st.pairs)
   pub calibration : CalibrationSound st.calibration
   pub total : st.tally.total ≤ most
   pub outside : st.tally.outside ≤ most
@@ -112,8 +113,9 @@ Fitting st = Sound count_limit st
 
 unfoldable pub sound_of : ℕ → State → Bool
 sound_of most st =
-    (((leb st.minute minute_limit && begun_sound_of st.begun st.setting) && (chart_sound_of st.zero && chart_sound_of st.span))
-    && ((leb st.pending 30 && all_sound_of (take st.pending st.pairs)) && calibration_sound_of st.calibration))
+    (((leb st.minute minute_limit && begun_sound_of st.begun st.setting)
+    && (chart_sound_of st.zero && chart_sound_of st.span))
+    && ((leb st.waiting 30 && all_sound_of (take st.waiting st.pairs)) && calibration_sound_of st.calibration))
     && ((leb st.tally.total most && leb st.tally.outside most) && leb st.over most)
 
 pub sound_answers : (most : ℕ) (st : State) → Answers (sound_of most st) (Sound most st)
@@ -126,7 +128,7 @@ sound_answers most st =
     (answers_and (answers_le st.minute minute_limit) (begun_answers st.begun st.setting))
     (answers_and (chart_sound_answers st.zero) (chart_sound_answers st.span)))
     (answers_and
-    (answers_and (answers_le st.pending 30) (all_answers (take st.pending st.pairs)))
+    (answers_and (answers_le st.waiting 30) (all_answers (take st.waiting st.pairs)))
     (calibration_answers st.calibration)))
     (answers_and
     (answers_and (answers_le st.tally.total most) (answers_le st.tally.outside most))
@@ -136,7 +138,7 @@ sound_answers most st =
       setting = p.0.0.0.1;
       zero = p.0.0.1.0;
       span = p.0.0.1.1;
-      pending = p.0.1.0.0;
+      waiting = p.0.1.0.0;
       pairs = p.0.1.0.1;
       calibration = p.0.1.1;
       total = p.1.0.0;
@@ -144,6 +146,6 @@ sound_answers most st =
       over = p.1.1;
     })
     (λ s. (
-      (((s.minute, s.setting), (s.zero, s.span)), ((s.pending, s.pairs), s.calibration)),
+      (((s.minute, s.setting), (s.zero, s.span)), ((s.waiting, s.pairs), s.calibration)),
       ((s.total, s.outside), s.over),
     ))

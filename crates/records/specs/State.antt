@@ -7,7 +7,7 @@ use Rattle.refusals.specs.declared.Refusal.{Refusal}
 use Rattle.charts.specs.Charts.{blank, reset_of, applied_of}
 use Rattle.charts.specs.declared.Chart.{Chart}
 use Rattle.records.specs.Record.{Record, minute, difference_of, waiting_of}
-use Rattle.records.specs.Kinds.{Point, no_setting, at_zero, at_span, reads, resets, is_pair, fails, empties, clears_calls, starts_period, counts, setting_after, calibration_after, deviation_of, week_of, outside_by, no_values, one_more, exceeds_of, raises_call_of, Demand}
+use Rattle.records.specs.Kinds.{Point, no_setting, at_zero, at_span, reads, resets, is_pair, fails, empties, clears_demands, starts_period, counts, setting_after, calibration_after, deviation_of, week_of, outside_by, no_values, one_more, exceeds_of, raises_demand_of, Demand}
 use Rattle.records.specs.Table.{Facts, refusal_in}
 use Rattle.records.specs.declared.state.Setting.{Setting}
 use Rattle.records.specs.declared.state.Waiting.{Waiting}
@@ -39,7 +39,7 @@ initial_of analyser = record {
   setting = no_setting;
   zero = blank;
   span = blank;
-  pending = 0;
+  waiting = 0;
   pairs = no_pairs;
   calibration = None;
   tally = no_values;
@@ -59,7 +59,7 @@ facts_of st = record {
   zero_readings = st.zero.readings;
   span_started = st.span.started;
   span_readings = st.span.readings;
-  pending = take st.pending st.pairs;
+  waiting = take st.waiting st.pairs;
   calibration = st.calibration;
   edition = st.edition;
 }
@@ -110,8 +110,8 @@ applied_to st r =
       setting = setting_after r st.setting;
       zero = chart_after st.edition at_zero st.setting r st.zero;
       span = chart_after st.edition at_span st.setting r st.span;
-      pending = if empties r then 0 else (if is_pair r then st.pending + 1 else st.pending);
-      pairs = if empties r then no_pairs else (if is_pair r then set st.pairs st.pending (waiting_of r) else st.pairs);
+      waiting = if empties r then 0 else (if is_pair r then st.waiting + 1 else st.waiting);
+      pairs = if empties r then no_pairs else (if is_pair r then set st.pairs st.waiting (waiting_of r) else st.pairs);
       calibration = calibration_after r st.calibration;
       tally =
           if starts_period r then no_values
@@ -119,8 +119,8 @@ applied_to st r =
           else running);
       over = if starts_period r then 0 else (if exceeds_of 5 judged then st.over + 1 else st.over);
       demand =
-          if clears_calls r then None
-          else (if fails r || raises_call_of judged st.over then raised_of st.demand (minute r)
+          if clears_demands r then None
+          else (if fails r || raises_demand_of judged st.over then raised_of st.demand (minute r)
           else st.demand);
       edition = st.edition;
     }

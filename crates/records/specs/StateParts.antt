@@ -3,7 +3,7 @@ use Rattle.std.specs.Prelude.{true, ℕ, ◌+◌, eqb, set, if◌then◌else◌,
 use Rattle.charts.specs.Charts.{reset_of, applied_of}
 use Rattle.charts.specs.declared.Chart.{Chart}
 use Rattle.records.specs.Record.{Record, mark, minute, difference_of, function_of}
-use Rattle.records.specs.Kinds.{Point, at_zero, at_span, point_of, deviation_of, counts, outside_by, no_values, one_more, exceeds_of, raises_call_of}
+use Rattle.records.specs.Kinds.{Point, at_zero, at_span, point_of, deviation_of, counts, outside_by, no_values, one_more, exceeds_of, raises_demand_of}
 use Rattle.records.specs.State.{chart_of, no_pairs, judged_at, running_at, raised_of}
 use Rattle.records.specs.declared.state.Waiting.{Waiting}
 use Rattle.records.specs.declared.state.Function.{Function}
@@ -12,10 +12,10 @@ use Rattle.records.specs.declared.state.State.{State}
 -- ---- the state with a part of it changed
 
 abbrev pub with_pair : State → Waiting → State
-with_pair st w = record st { pending = st.pending + 1; pairs = set st.pairs st.pending w }
+with_pair st w = record st { waiting = st.waiting + 1; pairs = set st.pairs st.waiting w }
 
 abbrev pub emptied : State → State
-emptied st = record st { pending = 0; pairs = no_pairs }
+emptied st = record st { waiting = 0; pairs = no_pairs }
 
 -- a new period: the tally and the count of weeks start again
 abbrev pub with_period : State → State
@@ -32,7 +32,7 @@ judged_of st m = record st {
   minute = m;
   tally = running_at st m;
   over = if exceeds_of 5 (judged_at st m) then st.over + 1 else st.over;
-  demand = if raises_call_of (judged_at st m) st.over then raised_of st.demand m else st.demand;
+  demand = if raises_demand_of (judged_at st m) st.over then raised_of st.demand m else st.demand;
 }
 
 -- a value, where it counts

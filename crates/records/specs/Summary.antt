@@ -6,7 +6,7 @@ use Rattle.charts.specs.Readings.{Reading, after_readings}
 use Rattle.charts.specs.declared.Chart.{Chart}
 use Rattle.records.specs.Record.{Record, difference_of}
 use Rattle.records.specs.Kinds.{Point, at_zero, at_span, deviation_of, Demand}
-use Rattle.records.specs.History.{Entry, History, begun_in, last_minute, setting_in, started_in, readings_since, pending_in, function_in, last_week, tally_in, weeks_over, first_call, refusal_of}
+use Rattle.records.specs.History.{Entry, History, begun_in, last_minute, setting_in, started_in, readings_since, waiting_in, function_in, last_week, tally_in, weeks_over, first_demand, refusal_of}
 use Rattle.records.specs.State.{no_pair}
 use Rattle.records.specs.declared.state.Waiting.{Waiting}
 use Rattle.records.specs.declared.state.State.{State}
@@ -37,17 +37,17 @@ demand_of (some m) = Some m
 
 -- What no record says: the analyser, the number of the next block, and the edition of the block that is open, or
 -- between blocks that of the last one, since a block may be open with no record yet (paper 02, C-12).
-pub record Place : Type 0 where
+pub record Position : Type 0 where
   pub analyser : ℕ
   pub next : ℕ
   pub edition : ℕ
 
 -- a record of the block that is open
-abbrev pub entry_at : Place → Record → Entry
+abbrev pub entry_at : Position → Record → Entry
 entry_at p r = record { edition = p.edition; bytes = r }
 
 -- THE SUMMARY: the state that a place and a history lead to
-unfoldable pub summary_of : Place → History → State
+unfoldable pub summary_of : Position → History → State
 summary_of p h = record {
   analyser = p.analyser;
   next = p.next;
@@ -56,11 +56,11 @@ summary_of p h = record {
   setting = setting_in h;
   zero = chart_in at_zero h;
   span = chart_in at_span h;
-  pending = length (pending_in h);
-  pairs = padded (pending_in h);
+  waiting = length (waiting_in h);
+  pairs = padded (waiting_in h);
   calibration = function_in h;
   tally = tally_in (last_week h) h;
   over = weeks_over h;
-  demand = demand_of (first_call h);
+  demand = demand_of (first_demand h);
   edition = p.edition;
 }

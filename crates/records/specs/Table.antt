@@ -1,4 +1,5 @@
--- Paper 01, 'Where input is stopped', rows 10 to 25, with the times, coverage, days and span of 'Calibration (6.4, 6.5)',
+-- Paper 01, 'Where input is stopped', rows 10 to 25, with the times, coverage, days and span of 'Calibration (6.4,
+-- 6.5)',
 -- and paper 02, C-12 and C-13. The rows ask certain facts of the records before, and the edition of the record's own
 -- block; they are the same whether read from a history or from a state.
 use Rattle.std.specs.Prelude.{Bool, true, false, not, ◌&&◌, ◌||◌, List, [], ◌∷◌, map, ℕ, suc, ◌+◌, ◌-◌, ◌*◌, leb, ltb, eqb, ℤ, pos, length, if◌then◌else◌, None, Some}
@@ -15,7 +16,8 @@ use Rattle.records.specs.Kinds.{sets, day_of, response_of, line_of, Calibration}
 use Rattle.records.specs.declared.state.Setting.{Setting}
 use Rattle.records.specs.declared.state.Waiting.{Waiting}
 
--- what the rows ask beside the record: is there one before it, the last minute, the setting, of each chart whether it is
+-- what the rows ask beside the record: is there one before it, the last minute, the setting, of each chart whether it
+-- is
 -- started and how many readings it has since its reset, the pairs that wait (oldest first), the function in force, and
 -- the edition of the block in which the record stands. By this one all figures of a closing are rounded, y' too,
 -- whichever the edition in which its pairs were taken (paper 02, C-13).
@@ -27,7 +29,7 @@ pub record Facts : Type 0 where
   pub zero_readings : ℕ
   pub span_started : Bool
   pub span_readings : ℕ
-  pub pending : List Waiting
+  pub waiting : List Waiting
   pub calibration : Calibration
   pub edition : ℕ
 
@@ -72,11 +74,11 @@ follows (some w) start length = follows_one_of w start length
 unfoldable pub times_fit_of : Facts → Record → Bool
 times_fit_of f r =
     leb (4 * response_of f.setting) (length_of r)
-    && (leb (length_of r) (minute r) && follows (last_of f.pending) (minute r - length_of r) (length_of r))
+    && (leb (length_of r) (minute r) && follows (last_of f.waiting) (minute r - length_of r) (length_of r))
 
 unfoldable pub pair_refusal_of : Facts → Record → ℕ
 pair_refusal_of f r =
-    18 when leb 30 (length f.pending)
+    18 when leb 30 (length f.waiting)
     or 16 when not (times_fit_of f r)
     or 17 when le_z (coverage_of r) (pos 90)
 
@@ -112,14 +114,14 @@ pair_of_waiting w = w.pair
 -- a calibration closing over the pairs that wait, with Z: 20, 21, then the fit's refusals, or its figures
 unfoldable pub calibration_of : Facts → ℤ → Fitted
 calibration_of f z =
-    if not (count_fits_of (length f.pending)) then refused_fit 20
-    else (if not (days_fit_of f.pending) then refused_fit 21
-    else fit_of f.edition f.setting.requirements z (map pair_of_waiting f.pending))
+    if not (count_fits_of (length f.waiting)) then refused_fit 20
+    else (if not (days_fit_of f.waiting) then refused_fit 21
+    else fit_of f.edition f.setting.requirements z (map pair_of_waiting f.waiting))
 
 -- an annual closing: 19, then the test's refusals, or its verdicts
 unfoldable pub annual_by : Calibration → Facts → Tested
 annual_by None f = refused_test 19
-annual_by (Some l) f = test_of f.edition f.setting.requirements (line_of l) (map pair_of_waiting f.pending)
+annual_by (Some l) f = test_of f.edition f.setting.requirements (line_of l) (map pair_of_waiting f.waiting)
 
 abbrev pub annual_of : Facts → Tested
 annual_of f = annual_by f.calibration f
@@ -137,7 +139,8 @@ pass_mark_of c = if c.passed then 1 else 0
 unfoldable pub stores_fit_of : Fitted → Record → Bool
 stores_fit_of c r =
     (eqb (mark r) (pass_mark_of c) && sameℤ (field_of r 12) c.line.slope)
-    && (sameℤ (long_field_of r 16) c.line.intercept && (sameℤ (field_of r 24) c.top.0 && sameℤ (field_of r 28) (pos c.count)))
+    && (sameℤ (long_field_of r 16) c.line.intercept
+    && (sameℤ (field_of r 24) c.top.0 && sameℤ (field_of r 28) (pos c.count)))
 
 unfoldable pub calibration_refusal_of : Facts → Record → ℕ
 calibration_refusal_of f r =
@@ -156,7 +159,7 @@ unfoldable pub annual_refusal_of : Facts → Record → ℕ
 annual_refusal_of f r =
     let t : Tested = annual_of f in
     t.refusal
-    or 25 when not (stores_test_of t (length f.pending) r)
+    or 25 when not (stores_test_of t (length f.waiting) r)
 
 -- ---- 19 for a value
 

@@ -42,7 +42,8 @@ record_of kind mark minute fields = head_of kind mark minute ++ fields ++ replic
 unfoldable pub calibration_record : Fitted → ℕ → ℤ → Record
 calibration_record c minute z =
     record_of 5 (pass_mark_of c) minute
-    (field_bytes z ++ field_bytes c.line.slope ++ long_bytes c.line.intercept ++ field_bytes c.top.0 ++ bytes32 c.count)
+    (field_bytes z ++ field_bytes c.line.slope ++ long_bytes c.line.intercept ++ field_bytes c.top.0
+    ++ bytes32 c.count)
 
 -- kind 6: N
 unfoldable pub annual_record : Tested → ℕ → ℕ → Record

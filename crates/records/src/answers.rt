@@ -12,14 +12,14 @@ pub fn silent(a: Alarms) -> bool
     !a.rising && !a.falling && !a.precision
 }
 
-// A calibration at most so many minutes old; without one, no.
+// A calibration at most `limit` minutes old; without one, no.
 pub fn young(limit: u32, m: u32, calibration: Option<Function>) -> bool
     ensures { result ≡ young_of limit m calibration }
 {
     calibration.is_some_and(|f| m.saturating_sub(f.minute) <= limit)
 }
 
-// No call, or a first one at most so many minutes old. Not one function with `young`: without a calibration that says no, and this yes.
+// No call, or a first one at most `limit` minutes old. Not one function with `young`: without a calibration that says no, and this yes.
 pub fn recent(limit: u32, m: u32, demand: Option<u32>) -> bool
     ensures { result ≡ recent_of limit m demand }
 {

@@ -3,7 +3,7 @@
 ghost use Rattle.std.specs.Prelude.{◌≡◌, ◌≢◌, true, false, ◌+◌, ◌<◌, ◌≤◌, if◌then◌else◌};
 ghost use Rattle.charts.specs.ChartSoundness.{ChartSound};
 ghost use Rattle.records.specs.Record.{kind, mark, minute, reading_ranged_of, value_ranged_of};
-ghost use Rattle.records.specs.Kinds.{deviation_of, exceeds_of, outside_by, point_of, raises_call_of};
+ghost use Rattle.records.specs.Kinds.{deviation_of, exceeds_of, outside_by, point_of, raises_demand_of};
 ghost use Rattle.records.specs.Soundness.{CalibrationSound, Fitting, SettingSound};
 ghost use Rattle.records.specs.Table.{reading_refusal_of, refusal_in};
 ghost use Rattle.records.specs.State.{applied_to, chart_of, facts_of, initial_of, judged_at, no_pair, raised_of, running_at};
@@ -35,7 +35,7 @@ pub fn initial(analyser: u32) -> State
         setting: Setting::default(),
         zero: charts::unstarted(),
         span: charts::unstarted(),
-        pending: 0,
+        waiting: 0,
         pairs: [blank_pair(); 30],
         calibration: None,
         tally: Tally::default(),
@@ -56,9 +56,9 @@ fn exceeds(percent: u64, t: Tally) -> bool
 }
 
 // Whether a judged week raises a call: over 40 percent, or over 5 percent as the sixth of its period.
-#[tactic(auto, unfolding(crate::specs::Kinds::raises_call_of))]
-fn raises_call(t: Tally, over: u32) -> bool
-    ensures { result ≡ raises_call_of t over }
+#[tactic(auto, unfolding(crate::specs::Kinds::raises_demand_of))]
+fn raises_demand(t: Tally, over: u32) -> bool
+    ensures { result ≡ raises_demand_of t over }
 {
     exceeds(40, t) | (exceeds(5, t) & (over == 5))
 }
@@ -95,9 +95,9 @@ fn weeks_with(over: u32, week: Tally) -> u32
 
 // The first call stays the first.
 fn demand_after(st: State, week: Tally, m: u32) -> Option<u32>
-    ensures { result ≡ (if raises_call_of week st.over then raised_of st.demand m else st.demand) }
+    ensures { result ≡ (if raises_demand_of week st.over then raised_of st.demand m else st.demand) }
 {
-    if raises_call(week, st.over) {
+    if raises_demand(week, st.over) {
         return st.demand.or(Some(m));
     }
     st.demand
@@ -123,11 +123,11 @@ fn judged(st: State, m: u32) -> State
 // ---- kinds
 
 fn add_pair(mut st: State, w: Waiting) -> State
-    requires { st.pending < 30 }
+    requires { st.waiting < 30 }
     ensures { result ≡ with_pair st w }
 {
-    st.pairs[st.pending as usize] = w;
-    st.pending += 1;
+    st.pairs[st.waiting as usize] = w;
+    st.waiting += 1;
     st
 }
 
@@ -136,7 +136,7 @@ fn empty_pairs(st: State) -> State
     ensures { result ≡ emptied st }
 {
     State {
-        pending: 0,
+        waiting: 0,
         pairs: [blank_pair(); 30],
         ..st
     }

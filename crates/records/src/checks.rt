@@ -90,7 +90,7 @@ fn times_fit(st: State, r: &[u8; 40]) -> bool
         return false;
     }
     // By a match: inside a closure what `follows_one` asks isn't proved.
-    match st.pairs[..st.pending as usize].last() {
+    match st.pairs[..st.waiting as usize].last() {
         None => true,
         Some(w) => follows_one(*w, m - l, l),
     }
@@ -101,7 +101,7 @@ pub fn pair_refusal(st: State, r: &[u8; 40]) -> Result<(), Refusal>
     requires { Fitting st × SettingSound st.setting × (waiting_ranged_of r.now ≡ true) }
     ensures { outcome_of result ≡ pair_refusal_of (facts_of st) r.now }
 {
-    if 30 <= st.pending {
+    if 30 <= st.waiting {
         return Err(Refusal::Waiting);
     }
     if !times_fit(st, r) {

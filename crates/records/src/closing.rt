@@ -31,8 +31,8 @@ pub fn calibration_result(st: State, z: i32) -> Result<Figures, Refusal>
     requires { Fitting st × SettingSound st.setting × ZRanged z }
     ensures { fitted result ≡ calibration_of (facts_of st) z }
 {
-    let n = st.pending as usize;
-    if !calibration::count_fits(st.pending) {
+    let n = st.waiting as usize;
+    if !calibration::count_fits(st.waiting) {
         return Err(Refusal::Count);
     }
     if !checks::days_fit(&st.pairs[..n]) {
@@ -44,9 +44,9 @@ pub fn calibration_result(st: State, z: i32) -> Result<Figures, Refusal>
 
 fn test_with(st: State, f: Function) -> Result<Verdicts, Refusal>
     requires { Fitting st × SettingSound st.setting × LineRanged (line_of f) }
-    ensures { tested result ≡ test_of st.edition st.setting.requirements (line_of f) (map pair_of_waiting (take st.pending st.pairs)) }
+    ensures { tested result ≡ test_of st.edition st.setting.requirements (line_of f) (map pair_of_waiting (take st.waiting st.pairs)) }
 {
-    let n = st.pending as usize;
+    let n = st.waiting as usize;
     let pairs = checks::figures(st.pairs);
     calibration::annual_test(&pairs[..n], basis(st), f.line())
 }
@@ -121,5 +121,5 @@ pub fn annual_refusal(st: State, r: &[u8; 40]) -> Result<(), Refusal>
     ensures { outcome_of result ≡ annual_refusal_of (facts_of st) r.now }
 {
     let t = annual_result(st)?;
-    stored(stores_test(t, st.pending, r))
+    stored(stores_test(t, st.waiting, r))
 }

@@ -47,12 +47,12 @@ pub fn sound(most: u32, st: State) -> bool
     ensures { result ≡ sound_of most st }
 {
     // Asked first, since the pairs are read to that place.
-    if 30 < st.pending {
+    if 30 < st.waiting {
         return false;
     }
     ((((st.minute <= MINUTE_LIMIT) & begun_sound(st.begun, st.setting))
         & (st.zero.sound() & st.span.sound()))
-        & (((st.pending <= 30) & pairs_sound(&st.pairs[..st.pending as usize]))
+        & (((st.waiting <= 30) & pairs_sound(&st.pairs[..st.waiting as usize]))
             & calibration_sound(st.calibration)))
         & (((st.tally.total <= most) & (st.tally.outside <= most)) & (st.over <= most))
 }

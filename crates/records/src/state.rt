@@ -65,7 +65,7 @@ pub struct State {
     pub setting: Setting,
     pub zero: Chart,
     pub span: Chart,
-    pub pending: u32,
+    pub waiting: u32,
     pub pairs: [Waiting; 30],
     pub calibration: Option<Function>,
     pub tally: Tally,

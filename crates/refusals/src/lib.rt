@@ -10,7 +10,7 @@ use std::fmt;
 // Where input is stopped: the rows of the table, each named by what it finds wrong.
 #[derive(Clone, Copy, Debug, PartialEq, Eq)]
 pub enum Refusal {
-    // Of what is lent: its length; bytes that are not so many records, or a kind that closes nothing.
+    // Of what is lent: its length; bytes that are no whole number of records, or too few or many, or a kind that closes nothing.
     Length = 1,
     Records = 6,
     // Of a block: its check; edition, count, number or a stray byte; another analyser; not the expected number; an edition lower than the one before.

@@ -1,4 +1,4 @@
--- `charts::rounds_up_of` meets its contract: twice the rest against the divisor, which the code tests without the double.
+-- `charts::rounds_up` meets its contract: twice the rest against the divisor, which the code tests without the double.
 use borrow.Author.Tests.{eq-eqb, ne_eqb, eqb-true, eqb-false}
 use mathlib.Core.Path.{◌≡◌, refl, sym, ◌∙◌}
 use mathlib.Core.Bool.{Bool, true, false}

@@ -1,4 +1,4 @@
--- `calibration::fitting::fit_from_of` meets its contract.
+-- `calibration::fitting::fit_from` meets its contract.
 use Rattle.std.proofs.Common.{◌≡◌, sym, ap, subst, ◌∙◌, ◌<◌, T, true, false, arith, to_z-of_z, w32, w64, Some, None, List}
 use Rattle.std.specs.Prelude.{Bool, ℤ, pos, nat_abs, ◌≤ℤ◌, ◌<ℤ◌, ◌≤◌, Option}
 use Rattle.std.specs.Int.Signed.{mag, le_z}

@@ -36,9 +36,9 @@ fit_is : (c : Start) (x : Fitted) → x ≡ calibration_of (facts_of c.args.st) 
 fit_is c x e = e ∙ ap (calibration_of (facts_of c.args.st)) (reads c)
 
 -- the pairs that wait are as many as the state says
-waiting : (c : Start) → length (facts_of c.args.st).pending ≡ c.args.st.pending
+waiting : (c : Start) → length (facts_of c.args.st).waiting ≡ c.args.st.waiting
 unfolding facts_of
-waiting c = let l : length c.args.st.pairs ≡ 30 = search rules in length-take-le c.args.st.pending c.args.st.pairs (omega (arith, c.requires.pending))
+waiting c = let l : length c.args.st.pairs ≡ 30 = search rules in length-take-le c.args.st.waiting c.args.st.pairs (omega (arith, c.requires.waiting))
 
 pub returns-in_err-first_rows-clause-row : goal.returns-in_err-first_rows-clause-row
 returns-in_err-first_rows-clause-row c =
@@ -96,5 +96,5 @@ returns-clause-bytes c =
     let f = facts_of c.args.st in
     c.annual.ensures
     ∙ ap (λ (m : ℕ). annual_record (tested (Ok c.in_ok-verdicts.verdicts)) m a.minute) (sym (waiting (goal.at.returns-clause-bytes c).Start))
-    ∙ ap (λ (t : Tested). annual_record t (length f.pending) a.minute) c.in_ok-verdicts.ensures
+    ∙ ap (λ (t : Tested). annual_record t (length f.waiting) a.minute) c.in_ok-verdicts.ensures
     ∙ sym (L.annual_bytes f a.kind a.minute a.z c.if-closing-eq5.false)

@@ -7,7 +7,7 @@ use Rattle.refusals.specs.Rows.{number_of, outcome_of}
 use Rattle.records.specs.Soundness.{Fitting}
 use Rattle.records.specs.State.{facts_of}
 use Rattle.records.specs.declared.state.State.{State}
-use Rattle.file.specs.Answered.{Appended, index_of, ran_of}
+use Rattle.file.specs.Answered.{Appended, place_number, ran_of}
 use Rattle.file.specs.Calls.{opened, ready_of}
 use Rattle.file.specs.Closings.{closing_of, closing_refusal, made, make_of}
 use Rattle.file.specs.RoomLaws.{fit_size, opened_ready}
@@ -80,9 +80,9 @@ returns-in_err-before c =
     let r = c.in_err-before in
     let h = ran g.After-open in
     let row = r.ensures.row ∙ ap (λ (x : Appended). x.refusal) h in
-    let index = r.ensures.index ∙ ap (λ (x : Appended). x.index) h in
+    let place = r.ensures.place ∙ ap (λ (x : Appended). x.place) h in
     let p = err_from_is_err_and c.from_residual-in_err-before.result c.from_residual-in_err-before.ensures.1 in
-    L.record_told _ _ _ _ _ _ _ _ _ (p.1 ∙ ap Err p.2) _ _ row index r.ensures.place
+    L.record_told _ _ _ _ _ _ _ _ _ (p.1 ∙ ap Err p.2) _ _ row place r.ensures.below
     (L.record_stops _ _ _ _ _ _ _ c.if-target-ne40.false (fits g.Else-not-records_fit) (closes g.Else-not-closes) (sound g.Else-not-ready) (sym c.in_ok-told.ensures) (λ z. some_row r.field-0.0.row (row ∙ z)))
 
 pub close-requires : goal.close-requires
@@ -135,7 +135,7 @@ returns-in_err-record c =
     let x = c.in_err-record.field-0.0 in
     let e = err_of c.close.result _ x (subst (Told c.close.result _) c.in_err-record.was (told g.After-map_err)) in
     let p = err_from_is_err_and c.from_residual-in_err-record.result c.from_residual-in_err-record.ensures.1 in
-    L.record_told _ _ _ _ _ _ _ _ _ (p.1 ∙ ap Err p.2) _ _ e.0 (ap index_of e.1) (rw e.1 (omega (arith, few g.Else-not-records_fit)))
+    L.record_told _ _ _ _ _ _ _ _ _ (p.1 ∙ ap Err p.2) _ _ e.0 (ap place_number e.1) (rw e.1 (omega (arith, few g.Else-not-records_fit)))
     (L.closing_stops _ _ _ _ _ _ _ c.if-target-ne40.false (fits g.Else-not-records_fit) (closes g.Else-not-closes) (sound g.Else-not-ready) (sym c.in_ok-told.ensures) (accepted g.In_ok-before) _ (own g.After-map_err) (λ z. some_row x.row (e.0 ∙ z)))
 
 pub returns-clause-value : goal.returns-clause-value

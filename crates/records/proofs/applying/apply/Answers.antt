@@ -1,4 +1,4 @@
--- `apply::apply` meets its contract.
+-- `applying::apply` meets its contract.
 use mathlib.Core.Path.{◌≡◌, ap, ◌∙◌}
 use native.Mathlib.Omega.{arith}
 use lib.ListN.{length, length-take}
@@ -63,7 +63,7 @@ pub add_pair-requires : goal.add_pair-requires
 unfolding judged_of facts_of kind
 add_pair-requires c =
     let j = (goal.at.add_pair-requires c).After-judged-s in
-    rw (judged-is j) (omega (arith, (pair_fits j c.in-4.is).room, length-take (state_of j).pending (state_of j).pairs, places (goal.at.add_pair-requires c).Start))
+    rw (judged-is j) (omega (arith, (pair_fits j c.in-4.is).room, length-take (state_of j).waiting (state_of j).pairs, places (goal.at.add_pair-requires c).Start))
 
 pub count_value-requires : goal.count_value-requires
 unfolding kind sets judged_of

@@ -1,4 +1,4 @@
--- `apply::with_failure` meets its contract.
+-- `applying::fail` meets its contract.
 use Rattle.records.specs.StateParts.{with_failure}
 use Rattle.records.proofs.ApplyLaws.{raised_or}
 use Rattle.records.proofs.applying.fail.Goals as goal

@@ -1,4 +1,4 @@
--- `apply::outside` meets its contract.
+-- `applying::outside` meets its contract.
 use mathlib.Core.Path.{◌≡◌, sym, ap, subst, ◌∙◌}
 use mir.Syntax.{w32}
 use mir.Val.{to_z, of_z}

@@ -1,4 +1,4 @@
--- `apply::reading` meets its contract.
+-- `applying::reading` meets its contract.
 use mathlib.Core.Path.{ap, ◌∙◌}
 use Rattle.records.specs.Record.{kind, minute, mark_limit}
 use Rattle.records.specs.RecordLaws.{formed_fields, reading_ranged_lem}

@@ -1,4 +1,4 @@
--- `apply::take_reading` meets its contract.
+-- `applying::take_reading` meets its contract.
 use mathlib.Core.Path.{◌≡◌, ◌∙◌}
 use Prim.Native.Nat.{◌<◌}
 use mir.Syntax.{w32}

@@ -1,4 +1,4 @@
--- `apply::value` meets its contract.
+-- `applying::value` meets its contract.
 use mathlib.Core.Path.{ap, ◌∙◌}
 use Rattle.records.specs.Record.{kind, minute}
 use Rattle.records.specs.RecordLaws.{value_ranged_lem}

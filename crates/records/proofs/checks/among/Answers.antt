@@ -1,4 +1,4 @@
--- `checks::among_of` meets its contract.
+-- `checks::among` meets its contract.
 use Rattle.std.proofs.Common.{refl, ◌∙◌, ◌||◌, map, eqb, rules, tests}
 use Rattle.std.specs.List.{list_any}
 use Rattle.std.proofs.lemmas.Iterator.{YieldsList-from_slice}

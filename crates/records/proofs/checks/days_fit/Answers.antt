@@ -1,4 +1,4 @@
--- `checks::days_fit_of` meets its contract.
+-- `checks::days_fit` meets its contract.
 use Rattle.std.proofs.Common.{◌≡◌, ℕ, ◌-◌, ◌<◌, ◌&&◌, List, map, length, get_or, leb}
 use Rattle.records.specs.Table.{different, end_day, days_fit_of}
 use Rattle.records.proofs.PairLaws.{last_is, first_is}

@@ -1,4 +1,4 @@
--- `closing::calibration_refusal_of` meets its contract.
+-- `closing::calibration_refusal` meets its contract.
 use mathlib.Core.Path.{◌≡◌, sym, ap, subst, ◌∙◌}
 use mathlib.Core.Bool.{not}
 use Prim.Native.Nat.{◌≤◌}
@@ -26,9 +26,9 @@ z-is : (c : After-field) → to_z w32 (of_z w32 c.field.result) ≡ z_of c.args.
 unfolding z_of
 z-is c = given w32 c.field.type_inv c.field.ensures
 
-few : (s : Start) → length (facts_of s.args.st).pending ≤ 30
+few : (s : Start) → length (facts_of s.args.st).waiting ≤ 30
 unfolding facts_of
-few s = omega (arith, s.requires.0.pending, length-take s.args.st.pending s.args.st.pairs)
+few s = omega (arith, s.requires.0.waiting, length-take s.args.st.waiting s.args.st.pairs)
 
 pub returns-in_err-c : goal.returns-in_err-c
 returns-in_err-c c =

@@ -1,4 +1,4 @@
--- `closing::stores_fit_of` meets its contract.
+-- `closing::stores_fit` meets its contract.
 use mathlib.Core.Path.{◌≡◌}
 use mathlib.Core.Bool.{Bool, ◌&&◌}
 use Prim.Native.Nat.{ℕ}

@@ -12,8 +12,8 @@ annual_test-requires c =
     let st = c.args.st in
     let S = c.requires.0 in
     let is = waiting_figures st c.figures-pairs.ensures in (
-      omega (arith, length-take st.pending c.figures-pairs.result, S.pending),
-      subst AllRanged (sym is) (pairs_ranged (take st.pending st.pairs) S.pairs),
+      omega (arith, length-take st.waiting c.figures-pairs.result, S.waiting),
+      subst AllRanged (sym is) (pairs_ranged (take st.waiting st.pairs) S.pairs),
       rw c.basis.ensures c.requires.1.requirements,
       rw c.line.ensures c.requires.2,
     )

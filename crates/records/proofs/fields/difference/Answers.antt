@@ -1,4 +1,4 @@
--- `fields::difference_of` meets its contract.
+-- `fields::difference` meets its contract.
 use mathlib.Core.Path.{◌≡◌}
 use mir.Syntax.{w32}
 use mir.Val.{to_z, of_z}

@@ -1,4 +1,4 @@
--- `fields::field_at` meets its contract.
+-- `fields::field` meets its contract.
 use Rattle.std.proofs.Common.{List, ℕ, ◌∙◌, ap}
 use Rattle.std.specs.Int.{w32, cast_signed, from_le_bytes}
 use Rattle.records.specs.Bytes.{le32}

@@ -1,4 +1,4 @@
--- `fields::length_of` meets its contract.
+-- `fields::length` meets its contract.
 use mathlib.Core.Path.{◌≡◌, ap}
 use native.Mathlib.Omega.{arith}
 use lib.Dec.{lit<}
@@ -11,7 +11,7 @@ use Rattle.records.proofs.SignedLaws.{given, unsigned_need}
 use Rattle.records.proofs.fields.length.Goals as goal
 use Rattle.records.proofs.fields.length.Goals.{After-field}
 
--- the field_of, as it is cast
+-- the field, as it is cast
 reads : (c : After-field) → to_z w32 (of_z w32 c.field.result) ≡ field_of c.args.r.now 8
 reads c = given w32 c.field.type_inv c.field.ensures
 

@@ -1,4 +1,4 @@
--- `fields::long_field_at` meets its contract.
+-- `fields::long_field` meets its contract.
 use Rattle.std.proofs.Common.{List, ℕ, ◌+◌, ◌*◌, ◌∙◌, ap}
 use Rattle.std.specs.Int.{w64, cast_signed, from_le_bytes}
 use Rattle.records.specs.Bytes.{le32}

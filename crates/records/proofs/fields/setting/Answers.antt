@@ -1,4 +1,4 @@
--- `fields::setting_of` meets its contract.
+-- `fields::setting` meets its contract.
 use mathlib.Core.Path.{◌≡◌}
 use lib.Dec.{lit<}
 use mir.Syntax.{w16, w32}

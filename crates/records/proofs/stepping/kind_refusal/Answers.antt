@@ -1,4 +1,4 @@
--- `step::kind_refusal` meets its contract: an arm for each kind that has rows of its own.
+-- `stepping::kind_refusal` meets its contract: an arm for each kind that has rows of its own.
 use mathlib.Core.Path.{◌≡◌, refl, sym, ap, subst, ◌∙◌}
 use mathlib.Core.Bool.{Bool, false, not}
 use Prim.Native.Nat.{ℕ}
