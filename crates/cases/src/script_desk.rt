@@ -251,7 +251,7 @@ impl<'a, R: Print> Desk<'a, R> {
         let Some(run) = self.run.as_flattened().get(..size) else {
             return self.no_room();
         };
-        let r = file::replay(self.state, run);
+        let r = file::take(self.state, run);
         self.state = r.state;
         let (row, place) = row_and_place(r.ended.err());
         print!(self.rt;

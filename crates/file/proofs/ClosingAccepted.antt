@@ -1,9 +1,9 @@
 -- A closing that is made is accepted: its bytes give back the figures that were worked out, and no row of the table refuses it.
-use Rattle.std.specs.Prelude.{◌≡◌, Bool, not, ◌||◌, List, map, ℕ, ◌≤◌, ◌<◌, T, ltb, eqb, ℤ, pos, neg_ℤ, nat_abs, length, take, if◌then◌else◌}
+use Rattle.std.specs.Prelude.{◌≡◌, Bool, not, List, map, ℕ, ◌≤◌, ◌<◌, T, ltb, eqb, ℤ, pos, neg_ℤ, nat_abs, length, take}
 use Rattle.std.proofs.Math.Path.{refl}
 use Rattle.std.proofs.Common.{sym, ap, subst, ◌∙◌, arith, length-take}
 use Rattle.std.proofs.Math.Bool.{true, false}
-use borrow.Author.Tests.{ne_eqb, eqb-true, eqb-false, lt-ltb, le-ltb, not-true, not-false}
+use borrow.Author.Tests.{ne_eqb, eqb-true, eqb-false, not-true, not-false}
 use Rattle.std.proofs.lemmas.Bool.{or_parts, ltb-false}
 use Rattle.std.proofs.lemmas.List.{length-map}
 use Rattle.std.specs.Int.Signed.{le_z}
@@ -205,10 +205,10 @@ module _ (m : ℕ) (st : State) (S : Sound m st) (minute : ℕ) (z : ℤ) where
 -- a closing that is made is accepted after the records before it, in a block of the edition told
 pub made_accepted : (st : State) (edition : ℕ) (bytes : List ℕ) (kind minute : ℕ) (z : ℤ) (old : List ℕ) → length st.pairs ≡ 30
     → (make_of st edition bytes kind minute z (length old)).refusal ≡ 0
-    → refusal_in (facts_of (ran_of (opened st edition) bytes).state) (made_bytes st edition bytes kind minute z old) ≡ 0
+    → refusal_in (facts_of (ran_of (opened st edition) bytes).kept) (made_bytes st edition bytes kind minute z old) ≡ 0
 made_accepted st edition bytes kind minute z old h e =
     let M = made_passes st edition bytes kind minute z (length old) e in
-    let s = (ran_of (opened st edition) bytes).state in
+    let s = (ran_of (opened st edition) bytes).kept in
     let S = before_sound st edition bytes h (omega (arith, (fit_size 0 11 (length bytes) M.fits).few)) M.ready in
     ap (refusal_in (facts_of s)) (sym (bytes_made st edition bytes kind minute z old _ refl e))
     ∙ closing_accepted count_limit s S minute z kind M.passes

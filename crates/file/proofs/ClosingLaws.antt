@@ -85,8 +85,7 @@ z_in_range kind z k h = holds (between_answers (neg_ℤ (pos 10000)) (pos 10000)
 -- ---- the state that the records before it lead to
 
 pub before_sound : (st : State) (edition : ℕ) (bytes : List ℕ) → length st.pairs ≡ 30 → length bytes ≤ 480 → ready_of st ≡ true
-    → Fitting (ran_of (opened st edition) bytes).state
-unfolding ran_of
+    → Fitting (ran_of (opened st edition) bytes).kept
 before_sound st edition bytes h few r =
     let o = opened st edition in
     let F = ready_fit o (opened_ready st edition ∙ r) (ap length (opened_pairs st edition) ∙ h) in
@@ -159,20 +158,16 @@ module _ (st : State) (edition : ℕ) (bytes : List ℕ) (kind minute : ℕ) (z 
             past_call = unless_next (made_at 255) call_rows past_rows (told_row ∙ t)
 
             pub record_stops : ((ran_of (opened st edition) bytes).refusal ≡ 0 → ⊥) → make ≡ made (ran_of (opened st edition) bytes).refusal (ran_of (opened st edition) bytes).place
-            unfolding ran_before ran_of
             record_stops n = past_call ∙ unless_stop (made_at before.place) before.refusal past_records n
 
             module _ (e : (ran_of (opened st edition) bytes).refusal ≡ 0) where
               past : make ≡ past_records
-              unfolding ran_before ran_of
               past = past_call ∙ unless_next (made_at before.place) before.refusal past_records e
 
-              pub closing_stops : (n : ℕ) → n ≡ closing_refusal (facts_of (ran_of (opened st edition) bytes).state) kind minute z → (n ≡ 0 → ⊥) → make ≡ made n (length bytes / 40)
-              unfolding ran_before ran_of
+              pub closing_stops : (n : ℕ) → n ≡ closing_refusal (facts_of (ran_of (opened st edition) bytes).kept) kind minute z → (n ≡ 0 → ⊥) → make ≡ made n (length bytes / 40)
               closing_stops n g h = past ∙ unless_stop (made_at (length bytes / 40)) own_rows (made 0 255) (λ q. h (g ∙ q)) ∙ ap (made_at (length bytes / 40)) (sym g)
 
-              pub closing_made : (n : ℕ) → n ≡ closing_refusal (facts_of (ran_of (opened st edition) bytes).state) kind minute z → n ≡ 0 → make ≡ made 0 255
-              unfolding ran_before ran_of
+              pub closing_made : (n : ℕ) → n ≡ closing_refusal (facts_of (ran_of (opened st edition) bytes).kept) kind minute z → n ≡ 0 → make ≡ made 0 255
               closing_made n g h = past ∙ unless_next (made_at (length bytes / 40)) own_rows (made 0 255) (sym g ∙ h)
 
 -- what it tells that one was made
@@ -181,11 +176,11 @@ pub record MadePasses (st : State) (edition : ℕ) (bytes : List ℕ) (kind minu
   pub ready : ready_of st ≡ true
   pub told : told_refusal st.edition edition ≡ 0
   pub accepted : (ran_of (opened st edition) bytes).refusal ≡ 0
-  pub passes : closing_refusal (facts_of (ran_of (opened st edition) bytes).state) kind minute z ≡ 0
+  pub passes : closing_refusal (facts_of (ran_of (opened st edition) bytes).kept) kind minute z ≡ 0
 
 pub made_passes : (st : State) (edition : ℕ) (bytes : List ℕ) (kind minute : ℕ) (z : ℤ) (size : ℕ) → (make_of st edition bytes kind minute z size).refusal ≡ 0
     → MadePasses st edition bytes kind minute z
-unfolding make_of making_refusal ran_before ran_of
+unfolding make_of making_refusal
 made_passes st edition bytes kind minute z size e =
     let call = let_on 255 (making_refusal st edition bytes kind size) _ e in
     let a = row_passed 1 (not (eqb size 40)) tt call.0 in
@@ -211,8 +206,8 @@ module _ (st : State) (edition : ℕ) (bytes : List ℕ) (kind minute : ℕ) (z 
   unfolding made_bytes
   bytes_kept n = rw (e, ne_eqb x.refusal 0 n)
 
-  pub bytes_made : x.refusal ≡ 0 → closing_of (facts_of (ran_of (opened st edition) bytes).state) kind minute z ≡ made_bytes st edition bytes kind minute z old
-  unfolding made_bytes ran_before ran_of
+  pub bytes_made : x.refusal ≡ 0 → closing_of (facts_of (ran_of (opened st edition) bytes).kept) kind minute z ≡ made_bytes st edition bytes kind minute z old
+  unfolding made_bytes
   bytes_made n = rw (e, eq-eqb x.refusal 0 n)
 
 -- ---- a refused call: every clause of its answer

@@ -1,11 +1,11 @@
-pub mod TakeLaws
+pub mod LoopLaws
 pub mod OutcomeLaws
 pub mod TakingLaws
 pub mod CallsLaws
 pub mod StatementLaws
-pub mod RunLaws
+pub mod RunsOfBlocks
 pub mod FormingLaws
-pub mod EditionLaws
+pub mod ChangeOfEdition
 pub mod RoundTrip
 pub mod ClosingLaws
 pub mod ClosingAccepted

@@ -1,5 +1,5 @@
--- Paper 01, 'Making blocks and closings', and paper 02, C-12 and C-13: making a closing, and the rows of 'Where input is
--- stopped' for it. Its figures are worked out from the state that the records before it lead to, in a block of the
+-- Paper 01, 'Making blocks and closings', and paper 02, C-12 and C-13: making a closing, and the rows of 'Where input
+-- is stopped' for it. Its figures are worked out from the state that the records before it lead to, in a block of the
 -- edition told.
 use Rattle.std.specs.Prelude.{Bool, not, ◌||◌, List, ℕ, ◌/◌, eqb, ℤ, pos, length, if◌then◌else◌, Result}
 use Rattle.refusals.specs.Rows.{◌when◌, ◌or◌, unless_refused}
@@ -8,12 +8,12 @@ use Rattle.records.specs.Record.{Record}
 use Rattle.records.specs.Writing.{calibration_record, annual_record}
 use Rattle.records.specs.Table.{Facts, untimely_of, calibration_of, annual_of, sameℤ}
 use Rattle.records.specs.State.{facts_of}
-use Rattle.records.specs.Steps.{Ran, ran_from, state_rules}
+use Rattle.records.specs.Steps.{Ran}
 use Rattle.records.specs.declared.state.State.{State}
 use Rattle.blocks.specs.Blocks.{told_refusal}
-use Rattle.file.specs.Taking.{records, records_fit_of}
+use Rattle.file.specs.Taking.{records_fit_of}
 use Rattle.file.specs.Calls.{ready_of, opened}
-use Rattle.file.specs.Answered.{row_of, place_of}
+use Rattle.file.specs.Answered.{row_of, place_of, ran_of}
 use Rattle.file.specs.declared.Refused.{Refused}
 
 -- ---- the record
@@ -60,11 +60,11 @@ abbrev pub made_at : ℕ → ℕ → Made
 made_at place refusal = made refusal place
 
 -- the records before it, one after another, in a block of the edition told
-unfoldable pub ran_before : State → ℕ → List ℕ → Ran State
-ran_before st edition bytes = ran_from state_rules 0 (opened st edition) (records (length bytes / 40) bytes)
+abbrev pub ran_before : State → ℕ → List ℕ → Ran State
+ran_before st edition bytes = ran_of (opened st edition) bytes
 
--- the rows of making before its records', into a target of `size` bytes: 6 stands for the records, then for the kind, and
--- 3 and 26 for the edition told
+-- the rows of making before its records', into a target of `size` bytes: 6 stands for the records, then for the kind,
+-- and 3 and 26 for the edition told
 unfoldable pub making_refusal : State → ℕ → List ℕ → ℕ → ℕ → ℕ
 making_refusal st edition bytes kind size =
     1 when not (eqb size 40)
@@ -73,8 +73,8 @@ making_refusal st edition bytes kind size =
     or 7 when not (ready_of st)
     or told_refusal st.edition edition
 
--- making a closing: the rows of the call, then those of the records before the closing, then its own, at the place past
--- them
+-- making a closing: the rows of the call, then those of the records before the closing, then its own, at the place
+-- past them
 unfoldable pub make_of : State → ℕ → List ℕ → ℕ → ℕ → ℤ → ℕ → Made
 make_of st edition bytes kind minute z size =
     let ran : Ran State = ran_before st edition bytes in

@@ -6,8 +6,9 @@ use Rattle.refusals.specs.declared.Refusal.{Refusal}
 use Rattle.refusals.specs.Rows.{number_of, outcome_of}
 use Rattle.records.specs.Soundness.{Fitting}
 use Rattle.records.specs.State.{facts_of}
+use Rattle.records.specs.Steps.{Ran}
 use Rattle.records.specs.declared.state.State.{State}
-use Rattle.file.specs.Answered.{Appended, place_number, ran_of}
+use Rattle.file.specs.Answered.{place_number, ran_of}
 use Rattle.file.specs.Calls.{opened, ready_of}
 use Rattle.file.specs.Closings.{closing_of, closing_refusal, made, make_of}
 use Rattle.file.specs.RoomLaws.{fit_size, opened_ready}
@@ -37,10 +38,10 @@ ran c = ap (λ (s : State). ran_of s c.args.bytes.now) c.«open».ensures
 
 -- all of them accepted, and the state after them
 accepted : (c : In_ok-before) → (ran_of (opened c.args.st c.args.edition) c.args.bytes.now).refusal ≡ 0
-accepted c = sym (c.in_ok-before.ensures.row ∙ ap (λ (x : Appended). x.refusal) (ran (goal.at.In_ok-before c).After-open))
+accepted c = sym (c.in_ok-before.ensures.row ∙ ap (λ (x : Ran State). x.refusal) (ran (goal.at.In_ok-before c).After-open))
 
-after : (c : In_ok-before) → c.in_ok-before.before ≡ (ran_of (opened c.args.st c.args.edition) c.args.bytes.now).state
-after c = c.in_ok-before.ensures.after ∙ ap (λ (x : Appended). x.state) (ran (goal.at.In_ok-before c).After-open)
+after : (c : In_ok-before) → c.in_ok-before.before ≡ (ran_of (opened c.args.st c.args.edition) c.args.bytes.now).kept
+after c = c.in_ok-before.ensures.after ∙ ap (λ (x : Ran State). x.kept) (ran (goal.at.In_ok-before c).After-open)
 
 pub returns-then-target-ne40 : goal.returns-then-target-ne40
 returns-then-target-ne40 c = L.row_told _ _ _ _ _ _ _ _ _ refl _ c.into.ensures (L.size_stops _ _ _ _ _ _ _ c.if-target-ne40.true)
@@ -79,8 +80,8 @@ returns-in_err-before c =
     let g = goal.at.returns-in_err-before c in
     let r = c.in_err-before in
     let h = ran g.After-open in
-    let row = r.ensures.row ∙ ap (λ (x : Appended). x.refusal) h in
-    let place = r.ensures.place ∙ ap (λ (x : Appended). x.place) h in
+    let row = r.ensures.row ∙ ap (λ (x : Ran State). x.refusal) h in
+    let place = r.ensures.place ∙ ap (λ (x : Ran State). x.place) h in
     let p = err_from_is_err_and c.from_residual-in_err-before.result c.from_residual-in_err-before.ensures.1 in
     L.record_told _ _ _ _ _ _ _ _ _ (p.1 ∙ ap Err p.2) _ _ row place r.ensures.below
     (L.record_stops _ _ _ _ _ _ _ c.if-target-ne40.false (fits g.Else-not-records_fit) (closes g.Else-not-closes) (sound g.Else-not-ready) (sym c.in_ok-told.ensures) (λ z. some_row r.field-0.0.row (row ∙ z)))
@@ -115,7 +116,7 @@ told c = search rules
 
 -- the closing's own row, after the records before it
 own : (c : After-map_err) → let a = c.args.closing in
-    outcome_of c.close.result ≡ closing_refusal (facts_of (ran_of (opened c.args.st c.args.edition) c.args.bytes.now).state) a.kind a.minute a.z
+    outcome_of c.close.result ≡ closing_refusal (facts_of (ran_of (opened c.args.st c.args.edition) c.args.bytes.now).kept) a.kind a.minute a.z
 own c =
     let a = c.args.closing in
     c.close.ensures.row ∙ ap (λ (s : State). closing_refusal (facts_of s) a.kind a.minute a.z) (after (goal.at.After-map_err c).In_ok-before)
