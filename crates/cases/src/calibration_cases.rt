@@ -3,10 +3,9 @@
 ghost use Rattle.std.specs.Prelude.{◌≡◌, ◌≤◌, length, true};
 ghost use Rattle.calibration.specs.Pairs.{AllRanged, RequirementsRanged};
 
-use crate::print::labelled;
+use crate::print::Out;
 use calibration::{Actual, Basis, Conditions, Figures, Line, Pair, Requirements, Verdicts};
 use refusals::Refusal;
-use std::io;
 
 // Whether there are at most thirty pairs, and they and the requirements are in range.
 fn ranged(pairs: &[Pair], q: Requirements) -> bool
@@ -58,32 +57,19 @@ pub fn try_annual(pairs: &[Pair], b: Basis, l: Line) -> Option<Result<Verdicts, 
     Some(calibration::annual_test(pairs, b, l))
 }
 
-// ---- a line for each: its name, the numbers of the command, and the answer
+// ---- the end of a line for each, behind its name and the numbers of its command
 
 // A value, where there is one.
-pub fn value_line(
-    rt: &impl Print,
-    name: &[u8],
-    labels: &[&str],
-    numbers: &[i64],
-    value: Option<i32>,
-) -> io::Result<()> {
-    labelled(rt, name, labels, numbers)?;
-    match value {
-        Some(v) => println!(rt; " is {v}"),
-        None => println!(rt; " outside"),
-    }
+pub fn tell_value(out: &mut Out, value: Option<i32>) {
+    let Some(v) = value else {
+        return out.text(b" outside\n");
+    };
+    out.labelled(b" is #", &[i64::from(v)]);
+    out.text(b"\n");
 }
 
 // The row that refuses a fit, 0 for none, and its figures, each 0 where it is refused.
-pub fn fit_line(
-    rt: &impl Print,
-    name: &[u8],
-    numbers: &[i64],
-    fit: Option<Result<Figures, Refusal>>,
-) -> io::Result<()> {
-    let labels = [" n ", " E ", " sigma ", " reference ", " Z "];
-    labelled(rt, name, &labels, numbers)?;
+pub fn tell_fit(out: &mut Out, fit: Option<Result<Figures, Refusal>>) {
     let figures = match fit {
         Some(Ok(f)) => [
             0,
@@ -94,32 +80,19 @@ pub fn fit_line(
             i64::from(f.count),
         ],
         Some(Err(row)) => [i64::from(row.number()), 0, 0, 0, 0, 0],
-        None => return println!(rt; " outside"),
+        None => return out.text(b" outside\n"),
     };
-    let labels = [" refusal ", " passed ", " B ", " A ", " top ", " N "];
-    labelled(rt, &[], &labels, &figures)?;
-    println!(rt)
+    out.labelled(b" refusal # passed # B # A # top # N #", &figures);
+    out.text(b"\n");
 }
 
 // The row that refuses an annual test, and its two verdicts likewise.
-pub fn annual_line(
-    rt: &impl Print,
-    name: &[u8],
-    numbers: &[i64],
-    test: Option<Result<Verdicts, Refusal>>,
-) -> io::Result<()> {
-    let labels = [" n ", " sigma ", " reference ", " B ", " A "];
-    labelled(rt, name, &labels, numbers)?;
+pub fn tell_annual(out: &mut Out, test: Option<Result<Verdicts, Refusal>>) {
     let figures = match test {
         Some(Ok(v)) => [0, i64::from(v.variability), i64::from(v.function)],
         Some(Err(row)) => [i64::from(row.number()), 0, 0],
-        None => return println!(rt; " outside"),
+        None => return out.text(b" outside\n"),
     };
-    labelled(
-        rt,
-        &[],
-        &[" refusal ", " variability ", " function "],
-        &figures,
-    )?;
-    println!(rt)
+    out.labelled(b" refusal # variability # function #", &figures);
+    out.text(b"\n");
 }

@@ -1,22 +1,21 @@
-// The commands of the layers below the records: rounding, charts and calibration. Each is None where the numbers of its line are not those that it takes.
+// The commands of the layers below the records: rounding, charts and calibration.
 use crate::listed_pairs::Listed;
-use crate::script_command::Word;
+use crate::print::Out;
+use crate::script_command::{Command, Word};
 use crate::script_words::{first_word, fixed, to_i32, to_u8, to_u16, to_u32, to_usize, unsigned};
 use crate::{calibration_cases as calls, charts_cases, rounding_cases};
 use calibration::{Basis, Conditions, Line, Requirements};
 use charts::{Chart, Sum};
-use std::io;
 
 // The edition that is told, and the chart and the pairs that the lines go on with.
 #[derive(Drop)]
-pub struct Layers<'a, R> {
-    rt: &'a R,
+pub struct Layers {
     pub edition: u8,
     chart: Chart,
     listed: Listed,
 }
 
-fn conditions_of([temperature, pressure, water, oxygen]: [i32; 4]) -> Conditions {
+fn conditions_of(temperature: i32, pressure: i32, water: i32, oxygen: i32) -> Conditions {
     Conditions {
         temperature,
         pressure,
@@ -25,115 +24,88 @@ fn conditions_of([temperature, pressure, water, oxygen]: [i32; 4]) -> Conditions
     }
 }
 
-impl<'a, R: Print> Layers<'a, R> {
-    pub fn new(rt: &'a R) -> Layers<'a, R> {
+impl Layers {
+    pub fn new() -> Layers {
         Layers {
-            rt,
             edition: 1,
             chart: charts::unstarted(),
             listed: Listed::new(),
         }
     }
 
-    // The edition that is told from here on.
-    pub fn tell(&mut self, numbers: &[i64]) -> Option<io::Result<()>> {
-        let [edition] = numbers else {
-            return None;
-        };
-        self.edition = to_u8(*edition)?;
-        Some(Ok(()))
-    }
-
-    fn series(&mut self, name: &[u8], s: i64, ds: &[i64]) -> Option<io::Result<()>> {
-        let s = to_u16(s)?;
-        let (rt, c) = (self.rt, &mut self.chart);
-        Some(charts_cases::series(rt, self.edition, c, name, s, ds))
-    }
-
-    pub fn charts(&mut self, word: Word, name: &[u8], numbers: &[i64]) -> Option<io::Result<()>> {
-        match (word, numbers) {
-            (Word::Unstarted, []) => self.chart = charts::unstarted(),
-            (Word::Reset, []) => self.chart = self.chart.reset(),
-            (Word::Stop, []) => self.chart.started = false,
-            (Word::Series, [s, ds @ ..]) => {
+    pub fn obey(&mut self, out: &mut Out, command: &Command) {
+        let n = &command.numbers;
+        match command.word {
+            Word::Edition => self.edition = to_u8(n[0]),
+            Word::Near => rounding_cases::near(out, self.edition, n[0], n[1]),
+            Word::Unsigned => self.unsigned(out, command.text),
+            Word::Unstarted => self.chart = charts::unstarted(),
+            Word::Reset => self.chart = self.chart.reset(),
+            Word::Stop => self.chart.started = false,
+            Word::Series => {
                 self.chart = charts_cases::fresh();
-                return self.series(name, *s, ds);
+                self.more(out, command);
             }
-            (Word::More, [s, ds @ ..]) => return self.series(name, *s, ds),
-            (Word::Chart, [s]) => {
-                let s = to_u16(*s)?;
-                return Some(charts_cases::show(self.rt, name, s, self.chart));
+            Word::More => self.more(out, command),
+            Word::Chart => charts_cases::show(out, command.text, to_u16(n[0]), self.chart),
+            Word::Fill => {
+                let s = to_u16(n[1]);
+                charts_cases::fill(self.edition, &mut self.chart, n[0], s, command.from(2));
             }
-            (Word::Fill, [n, s, ds @ ..]) => {
-                let s = to_u16(*s)?;
-                charts_cases::fill(self.edition, &mut self.chart, *n, s, ds);
-            }
-            (Word::Sound, [readings, last, value, count]) => {
-                let p = Sum {
-                    value: value.cast_unsigned(),
-                    count: to_u32(*count)?,
-                };
-                let readings = to_u32(*readings)?;
-                let last = to_i32(*last)?;
-                return Some(charts_cases::sound(self.rt, name, readings, last, p));
-            }
-            _ => return None,
+            Word::Sound => sound(out, command),
+            Word::Standard => self.standard(out, command),
+            Word::Value => self.value(out, command),
+            Word::Conditions => self.conditions(n),
+            Word::Pairs => told(out, self.listed.list(command.from(0))),
+            Word::Pair => told(out, self.listed.change(to_usize(n[0]), n[1], n[2])),
+            Word::Fit | Word::Lent => self.fit(out, command),
+            _ => self.annual(out, command),
         }
-        Some(Ok(()))
     }
 
-    pub fn near(&self, numbers: &[i64]) -> Option<io::Result<()>> {
-        let [n, d] = numbers else {
-            return None;
-        };
-        Some(rounding_cases::near(self.rt, self.edition, *n, *d))
-    }
-
-    pub fn unsigned(&self, text: &[u8]) -> Option<io::Result<()>> {
+    fn unsigned(&self, out: &mut Out, text: &[u8]) {
         let (n, d) = first_word(text);
-        let (n, d) = (unsigned(n)?, unsigned(d)?);
-        Some(rounding_cases::unsigned(self.rt, self.edition, n, d))
+        match (unsigned(n), unsigned(d)) {
+            (Some(n), Some(d)) => rounding_cases::unsigned(out, self.edition, n, d),
+            _ => out.unknown(),
+        }
+    }
+
+    fn more(&mut self, out: &mut Out, command: &Command) {
+        let (name, s) = (command.text, to_u16(command.numbers[0]));
+        charts_cases::series(out, self.edition, &mut self.chart, name, s, command.from(1));
     }
 
     // ---- calibration
 
-    pub fn standard(&self, numbers: &[i64]) -> Option<io::Result<()>> {
-        let [v, t, p, h, o, reference] = fixed::<6>(numbers)?;
-        let k = conditions_of([t, p, h, o]);
+    fn standard(&self, out: &mut Out, command: &Command) {
+        let [v, t, p, h, o, reference] = fixed::<6>(&command.numbers);
+        let k = conditions_of(t, p, h, o);
         let value = calls::try_standard(self.edition, reference, k, v);
-        let labels = [" ", " t ", " p ", " h ", " o ", " reference "];
-        Some(calls::value_line(self.rt, b"standard", &labels, numbers, value))
+        out.labelled(b"standard # t # p # h # o # reference #", command.from(0));
+        calls::tell_value(out, value);
     }
 
-    pub fn value(&self, numbers: &[i64]) -> Option<io::Result<()>> {
-        let [x, slope, intercept, rest @ ..] = numbers else {
-            return None;
-        };
-        let [t, p, h, o, reference] = fixed::<5>(rest)?;
-        let k = conditions_of([t, p, h, o]);
+    fn value(&self, out: &mut Out, command: &Command) {
+        let [x, slope, _, t, p, h, o, reference] = fixed::<8>(&command.numbers);
+        let k = conditions_of(t, p, h, o);
         let l = Line {
-            slope: to_i32(*slope)?,
-            intercept: *intercept,
+            slope,
+            intercept: command.numbers[2],
         };
-        let x = to_i32(*x)?;
         let value = calls::try_value(self.edition, reference, l, k, x);
-        let labels = [" ", " B ", " A ", " t ", " p ", " h ", " o ", " reference "];
-        Some(calls::value_line(self.rt, b"value", &labels, numbers, value))
+        out.labelled(
+            b"value # B # A # t # p # h # o # reference #",
+            command.from(0),
+        );
+        calls::tell_value(out, value);
     }
 
-    // The list of pairs, and the conditions that they are listed with.
-    pub fn list(&mut self, word: Word, numbers: &[i64]) -> Option<io::Result<()>> {
-        match (word, numbers) {
-            (Word::Pairs, _) => self.listed.list(numbers)?,
-            (Word::Pair, [n, x, y]) => self.listed.change(to_usize(*n)?, *x, *y)?,
-            (Word::Conditions, _) => {
-                let [t, p, h, o, t2, p2, h2, o2] = fixed::<8>(numbers)?;
-                self.listed.first = conditions_of([t, p, h, o]);
-                self.listed.others = conditions_of([t2, p2, h2, o2]);
-            }
-            _ => return None,
-        }
-        Some(Ok(()))
+    // The conditions that pairs are listed with.
+    fn conditions(&mut self, numbers: &[i64]) {
+        let [t, p, h, o, t2, p2, h2, o2] = fixed::<8>(numbers);
+        self.listed.first = conditions_of(t, p, h, o);
+        self.listed.others = conditions_of(t2, p2, h2, o2);
     }
 
     fn basis(&self, limit: i32, uncertainty: i32, oxygen: i32) -> Basis {
@@ -147,32 +119,50 @@ impl<'a, R: Print> Layers<'a, R> {
         }
     }
 
-    pub fn fit(&mut self, word: Word, name: &[u8], numbers: &[i64]) -> Option<io::Result<()>> {
-        let [n, limit, uncertainty, oxygen, z] = fixed::<5>(numbers)?;
+    fn fit(&mut self, out: &mut Out, command: &Command) {
+        let [_, limit, uncertainty, oxygen, z] = fixed::<5>(&command.numbers);
         let b = self.basis(limit, uncertainty, oxygen);
-        let pairs = self.listed.first(to_usize(i64::from(n))?)?;
-        let fit = match word {
+        let Some(pairs) = self.listed.first(to_usize(command.numbers[0])) else {
+            return out.unknown();
+        };
+        let fit = match command.word {
             Word::Lent => Some(calibration::fit_list(pairs, b, z)),
             _ => calls::try_fit(pairs, b, z),
         };
-        Some(calls::fit_line(self.rt, name, numbers, fit))
+        out.text(command.text);
+        out.labelled(b" n # E # sigma # reference # Z #", command.from(0));
+        calls::tell_fit(out, fit);
     }
 
-    pub fn annual(&mut self, name: &[u8], numbers: &[i64]) -> Option<io::Result<()>> {
-        let [limit, rest @ ..] = numbers else {
-            return None;
-        };
-        let [head @ .., intercept] = rest else {
-            return None;
-        };
-        let [n, uncertainty, oxygen, slope] = fixed::<4>(head)?;
-        let b = self.basis(to_i32(*limit)?, uncertainty, oxygen);
+    fn annual(&mut self, out: &mut Out, command: &Command) {
+        let [limit, _, uncertainty, oxygen, slope] = fixed::<5>(&command.numbers);
+        let b = self.basis(limit, uncertainty, oxygen);
         let l = Line {
             slope,
-            intercept: *intercept,
+            intercept: command.numbers[5],
         };
-        let pairs = self.listed.first(to_usize(i64::from(n))?)?;
+        let Some(pairs) = self.listed.first(to_usize(command.numbers[1])) else {
+            return out.unknown();
+        };
         let test = calls::try_annual(pairs, b, l);
-        Some(calls::annual_line(self.rt, name, rest, test))
+        out.text(command.text);
+        out.labelled(b" n # sigma # reference # B # A #", command.from(1));
+        calls::tell_annual(out, test);
+    }
+}
+
+fn sound(out: &mut Out, command: &Command) {
+    let [readings, last, value, count, ..] = command.numbers;
+    let p = Sum {
+        value: value.cast_unsigned(),
+        count: to_u32(count),
+    };
+    charts_cases::sound(out, command.text, to_u32(readings), to_i32(last), p);
+}
+
+// Whether it could be done.
+fn told(out: &mut Out, done: Option<()>) {
+    if done.is_none() {
+        out.unknown();
     }
 }

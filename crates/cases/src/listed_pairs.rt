@@ -37,8 +37,8 @@ impl Listed {
             self.others
         };
         let pair = Pair {
-            signal: to_i32(signal)?,
-            srm: Actual(to_i32(value)?),
+            signal: to_i32(signal),
+            srm: Actual(to_i32(value)),
             conditions,
         };
         self.pairs.try_push(pair).ok()
@@ -69,8 +69,8 @@ impl Listed {
     pub fn change(&mut self, n: usize, signal: i64, value: i64) -> Option<()> {
         self.first(n)?;
         let pair = self.pairs.get_mut(n.checked_sub(1)?)?;
-        pair.signal = to_i32(signal)?;
-        pair.srm = Actual(to_i32(value)?);
+        pair.signal = to_i32(signal);
+        pair.srm = Actual(to_i32(value));
         Some(())
     }
 }

@@ -1,33 +1,76 @@
-// How values are printed.
-use charts::Alarms;
-use std::{fmt, io};
+// What a script prints, kept until it has ended.
+use arrayvec::{ArrayString, ArrayVec};
+use std::fmt::Write;
 
-// A value, or a word for none.
+// A script prints less than this.
+const LIMIT: usize = 262144;
+
 #[derive(Drop)]
-pub struct Or<'a, T>(pub Option<T>, pub &'a str);
+pub struct Out {
+    bytes: ArrayVec<u8, LIMIT>,
+    // Whether something had no room.
+    pub is_short: bool,
+}
 
-impl<T: fmt::Display> fmt::Display for Or<'_, T> {
-    fn fmt<W: fmt::Write>(&self, f: &mut fmt::Formatter<W>) -> fmt::Result {
-        match &self.0 {
-            Some(x) => write!(f, "{x}"),
-            None => write!(f, "{}", self.1),
+impl Out {
+    pub fn new() -> Out {
+        Out {
+            bytes: ArrayVec::new(),
+            is_short: false,
         }
     }
-}
 
-// 1 for each alarm that is on: the rising, the falling and the precision alarm.
-pub fn flags(rt: &impl Print, a: Alarms) -> io::Result<()> {
-    for alarm in [a.rising, a.falling, a.precision] {
-        print!(rt; "{}", u8::from(alarm))?;
+    pub fn bytes(&self) -> &[u8] {
+        self.bytes.as_slice()
     }
-    Ok(())
-}
 
-// A name, and numbers, each behind its label.
-pub fn labelled(rt: &impl Print, name: &[u8], labels: &[&str], numbers: &[i64]) -> io::Result<()> {
-    rt.write_all(name)?;
-    for (label, n) in labels.iter().zip(numbers) {
-        print!(rt; "{label}{n}")?;
+    pub fn text(&mut self, text: &[u8]) {
+        if self.bytes.try_extend_from_slice(text).is_err() {
+            self.is_short = true;
+        }
     }
-    Ok(())
+
+    pub fn unsigned(&mut self, n: u64) {
+        let mut digits = ArrayString::<20>::new();
+        if write!(digits, "{n}").is_ok() {
+            self.text(digits.as_str().as_bytes());
+        }
+    }
+
+    pub fn hexadecimal(&mut self, bytes: &[u8]) {
+        for byte in bytes {
+            let mut digits = ArrayString::<2>::new();
+            if write!(digits, "{byte:02x}").is_ok() {
+                self.text(digits.as_str().as_bytes());
+            }
+        }
+    }
+
+    fn number(&mut self, n: i64) {
+        if n < 0 {
+            self.text(b"-");
+        }
+        self.unsigned(n.unsigned_abs());
+    }
+
+    // Numbers, each behind its label, which ends before a `#`.
+    pub fn labelled(&mut self, labels: &[u8], numbers: &[i64]) {
+        for (label, n) in labels.split(|b| *b == b'#').zip(numbers) {
+            self.text(label);
+            self.number(*n);
+        }
+    }
+
+    // A label, and a number or - for none.
+    pub fn or_none(&mut self, label: &[u8], n: Option<u32>) {
+        self.text(label);
+        match n {
+            Some(n) => self.unsigned(u64::from(n)),
+            None => self.text(b"-"),
+        }
+    }
+
+    pub fn unknown(&mut self) {
+        self.text(b"unknown\n");
+    }
 }

@@ -1,30 +1,26 @@
 // The commands `near` and `unsigned`: near(n/d), or `outside` where the call does not take such numbers.
-use crate::print::Or;
-use std::io;
+use crate::print::Out;
 
 // The range: n within 2^62 of 0, d from 1 to 2^61.
-fn try_near(edition: u8, n: i64, d: i64) -> Option<i64> {
+pub fn near(out: &mut Out, edition: u8, n: i64, d: i64) {
+    out.labelled(b"near #/#", &[n, d]);
     if 1 << 62 < n.unsigned_abs() || d <= 0 || 1 << 61 < d {
-        return None;
+        return out.text(b" outside\n");
     }
-    Some(charts::near(edition, n, d))
+    out.labelled(b" #", &[charts::near(edition, n, d)]);
+    out.text(b"\n");
 }
 
-// The same over every u64, but for d 0. Two ranges and two calls: one function for both would be no shorter.
-fn try_near_unsigned(edition: u8, n: u64, d: u64) -> Option<u64> {
+// The same over every u64, but for d 0.
+pub fn unsigned(out: &mut Out, edition: u8, n: u64, d: u64) {
+    out.text(b"unsigned ");
+    out.unsigned(n);
+    out.text(b"/");
+    out.unsigned(d);
     if d == 0 {
-        return None;
+        return out.text(b" outside\n");
     }
-    Some(charts::near_unsigned(edition, n, d))
-}
-
-pub fn near(rt: &impl Print, edition: u8, n: i64, d: i64) -> io::Result<()> {
-    println!(rt; "near {n}/{d} {}", Or(try_near(edition, n, d), "outside"))
-}
-
-pub fn unsigned(rt: &impl Print, edition: u8, n: u64, d: u64) -> io::Result<()> {
-    println!(rt;
-        "unsigned {n}/{d} {}",
-        Or(try_near_unsigned(edition, n, d), "outside")
-    )
+    out.text(b" ");
+    out.unsigned(charts::near_unsigned(edition, n, d));
+    out.text(b"\n");
 }

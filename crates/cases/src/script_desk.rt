@@ -1,7 +1,7 @@
 // What the commands of the script do: a state is brought about, records are listed, a block is formed of them or a closing made after them, blocks are
 // gathered in a run, and the run is taken. A target is filled before a call, so that a byte that was written is seen.
-use crate::print::{Or, flags};
-use crate::script_command::Word;
+use crate::print::Out;
+use crate::script_command::{Command, Word};
 use crate::script_words::{to_u8, to_u32, to_usize};
 use crate::{charts_cases, script_record};
 use arrayvec::ArrayVec;
@@ -9,7 +9,6 @@ use charts::Chart;
 use file::{Closing, Refused};
 use records::State;
 use refusals::Refusal;
-use std::io;
 
 // The most bytes that are listed, those of a block, and those of a target.
 const LIST: usize = 520;
@@ -21,11 +20,10 @@ const TARGET: usize = 600;
 // What a target holds before a call.
 const FILL: u8 = 0xa5;
 
-// What a script works on: what it prints by, a state, one that was kept, the record that is prepared, the listed records, the run and how many blocks of it were
+// What a script works on: a state, one that was kept, the record that is prepared, the listed records, the run and how many blocks of it were
 // formed, and what the last call left in its target.
 #[derive(Drop)]
-pub struct Desk<'a, R> {
-    rt: &'a R,
+pub struct Desk {
     state: State,
     kept: State,
     record: [u8; 40],
@@ -45,34 +43,39 @@ fn step(st: State, record: &[u8; 40]) -> Result<State, Refusal> {
 }
 
 // The readings of a chart; a chart that is not started has none.
-fn readings(c: Chart) -> Or<'static, u32> {
-    Or(c.started.then_some(c.readings), "-")
+fn readings(c: Chart) -> Option<u32> {
+    c.started.then_some(c.readings)
 }
 
 // The number of the row that refused a call, 0 for none, and the place of the record at fault, 255 for none, as the script's lines have them.
-fn row_and_place(refused: Option<Refused>) -> (u32, u8) {
+fn row_and_place(refused: Option<Refused>) -> [i64; 2] {
     match refused {
-        Some(r) => (r.row.number(), r.place.unwrap_or(255)),
-        None => (0, 255),
+        Some(r) => [i64::from(r.row.number()), i64::from(r.place.unwrap_or(255))],
+        None => [0, 255],
     }
 }
 
 // The first `size` bytes of a target.
 fn asked(target: &mut [u8; TARGET], size: i64) -> Option<&mut [u8]> {
-    target.get_mut(..to_usize(size)?)
+    target.get_mut(..to_usize(size))
 }
 
 // The check of some bytes.
-pub fn show_check(rt: &impl Print, text: &[u8]) -> io::Result<()> {
-    rt.write_all(text)?;
-    println!(rt; ": check {:04x}", file::check(text))
+fn show_check(out: &mut Out, text: &[u8]) {
+    out.text(text);
+    out.text(b": check ");
+    out.hexadecimal(&file::check(text).to_be_bytes());
+    out.text(b"\n");
 }
 
-impl<'a, R: Print> Desk<'a, R> {
-    pub fn new(rt: &'a R) -> Desk<'a, R> {
+fn no_room(out: &mut Out) {
+    out.text(b" no room");
+}
+
+impl Desk {
+    pub fn new() -> Desk {
         let state = records::initial(0);
         Desk {
-            rt,
             state,
             kept: state,
             record: [0; 40],
@@ -83,244 +86,238 @@ impl<'a, R: Print> Desk<'a, R> {
         }
     }
 
-    fn no_room(&self) -> io::Result<()> {
-        print!(self.rt; " no room")
-    }
-
     // What the prepared record would meet. The state stays as it is.
-    pub fn attempt(&self, title: &[u8]) -> io::Result<()> {
+    fn attempt(&self, out: &mut Out, title: &[u8]) {
         let row = match step(self.state, &self.record) {
             Ok(_) => 0,
             Err(row) => row.number(),
         };
-        self.rt.write_all(title)?;
-        println!(self.rt; ": {row}")
+        out.text(title);
+        out.labelled(b": #", &[i64::from(row)]);
+        out.text(b"\n");
     }
 
-    // Commands on the state. Like `obey_file`, None where the line is no command: each command has numbers of its own.
-    pub fn obey(&mut self, word: Word, numbers: &[i64]) -> Option<io::Result<()>> {
-        match (word, numbers) {
-            (Word::New, [analyser]) => { self.state = records::initial(to_u32(*analyser)?) }
-            (Word::Record, [kind, mark, minute, fields @ ..]) => {
-                self.record = script_record::record(*kind, *mark, *minute, fields)?
+    // Commands on the state.
+    pub fn obey(&mut self, out: &mut Out, command: &Command) {
+        let n = &command.numbers;
+        match command.word {
+            Word::Case => {
+                out.text(command.text);
+                out.text(b":");
             }
-            (Word::Byte, [at, byte]) => {
-                let place = self.record.get_mut(to_usize(*at)?)?;
-                *place = to_u8(*byte)?;
+            Word::Try => self.attempt(out, command.text),
+            Word::Check => show_check(out, command.text),
+            Word::New => self.state = records::initial(to_u32(n[0])),
+            Word::Record => self.prepare(out, command),
+            Word::Byte => match self.record.get_mut(to_usize(n[0])) {
+                Some(place) => *place = to_u8(n[1]),
+                None => out.unknown(),
+            },
+            Word::Apply => {
+                let times = if command.count == 0 { 1 } else { n[0] };
+                self.apply(out, times, to_u32(n[1]));
             }
-            (Word::Apply, []) => return Some(self.apply(1, 0)),
-            (Word::Apply, [times]) => return Some(self.apply(*times, 0)),
-            (Word::Apply, [times, apart]) => {
-                return Some(self.apply(*times, to_u32(*apart)?));
-            }
-            (Word::Keep, []) => self.kept = self.state,
-            (Word::Back, []) => self.state = self.kept,
-            (Word::Expect, [block]) => self.state.next = to_u32(*block)?,
-            (Word::Open, [edition]) => self.state.edition = to_u8(*edition)?,
-            (Word::Show, []) => return Some(self.show()),
-            (Word::Charts, []) => return Some(self.charts()),
-            (Word::Report, []) => return Some(self.report()),
-            (Word::End, []) => return Some(println!(self.rt)),
-            _ => return None,
+            Word::Keep => self.kept = self.state,
+            Word::Back => self.state = self.kept,
+            Word::Expect => self.state.next = to_u32(n[0]),
+            Word::Open => self.state.edition = to_u8(n[0]),
+            Word::Show => self.show(out),
+            Word::Charts => self.charts(out),
+            Word::Report => self.report(out),
+            _ => out.text(b"\n"),
         }
-        Some(Ok(()))
     }
 
     // Commands on records that are listed and on the run, in an edition.
-    pub fn obey_file(
-        &mut self,
-        edition: u8,
-        word: Word,
-        numbers: &[i64],
-    ) -> Option<io::Result<()>> {
-        match (word, numbers) {
-            (Word::List, []) => Some(self.list()),
-            (Word::Clear, []) => {
+    pub fn obey_file(&mut self, out: &mut Out, edition: u8, command: &Command) {
+        let n = &command.numbers;
+        match command.word {
+            Word::List => self.list(out),
+            Word::Clear => {
                 self.list.clear();
                 self.formed = 0;
-                Some(Ok(()))
             }
-            (Word::Form, [size]) => Some(self.form(edition, *size, 0)),
-            (Word::Form, [size, less]) => Some(self.form(edition, *size, *less)),
-            (Word::Make, [kind, minute, z, size]) => {
-                let closing = script_record::closing(*kind, *minute, *z)?;
-                Some(self.make(edition, closing, *size, 0))
-            }
-            (Word::Make, [kind, minute, z, size, less]) => {
-                let closing = script_record::closing(*kind, *minute, *z)?;
-                Some(self.make(edition, closing, *size, *less))
-            }
-            (Word::Take, [size]) => Some(self.take(to_usize(*size)?)),
-            (Word::Poke, [at, byte]) => {
-                let byte = to_u8(*byte)?;
-                Some(self.poke(to_usize(*at)?, byte))
-            }
-            (Word::Seal, [block]) => Some(self.seal(to_usize(*block)?)),
-            (Word::Bytes, [from, to]) => {
-                let (from, to) = (to_usize(*from)?, to_usize(*to)?);
-                Some(self.bytes(from, to))
-            }
-            _ => None,
+            Word::Form => self.form(out, edition, n[0], n[1]),
+            Word::Make => self.make(
+                out,
+                edition,
+                script_record::closing(n[0], n[1], n[2]),
+                n[3],
+                n[4],
+            ),
+            Word::Take => self.take(out, to_usize(n[0])),
+            Word::Poke => self.poke(out, to_usize(n[0]), to_u8(n[1])),
+            Word::Seal => self.seal(out, to_usize(n[0])),
+            _ => self.bytes(out, to_usize(n[0]), to_usize(n[1])),
+        }
+    }
+
+    fn prepare(&mut self, out: &mut Out, command: &Command) {
+        let [kind, mark, minute, ..] = command.numbers;
+        let (kind, mark, minute) = (to_u8(kind), to_u8(mark), to_u32(minute));
+        match script_record::record(kind, mark, minute, command.from(3)) {
+            Some(record) => self.record = record,
+            None => out.unknown(),
         }
     }
 
     // The record a number of times, each some minutes after the one before, up to the first that is refused.
-    fn apply(&mut self, times: i64, apart: u32) -> io::Result<()> {
+    fn apply(&mut self, out: &mut Out, times: i64, apart: u32) {
         for _ in 0..times {
             match step(self.state, &self.record) {
                 Ok(after) => self.state = after,
-                Err(row) => return print!(self.rt; " refused {}", row.number()),
+                Err(row) => return out.labelled(b" refused #", &[i64::from(row.number())]),
             }
             script_record::move_on(&mut self.record, apart);
         }
-        Ok(())
     }
 
     // The prepared record is listed.
-    fn list(&mut self) -> io::Result<()> {
+    fn list(&mut self, out: &mut Out) {
         if self.list.try_extend_from_slice(&self.record).is_err() {
-            return self.no_room();
+            no_room(out);
         }
-        Ok(())
     }
 
     // What a call answered, and whether the target has all its old bytes.
-    fn tell(&self, refused: Option<Refused>) -> io::Result<()> {
-        let (row, place) = row_and_place(refused);
-        let target = if self.target == [FILL; TARGET] {
-            "kept"
+    fn tell(&self, out: &mut Out, refused: Option<Refused>) {
+        out.labelled(b" refused # place #", &row_and_place(refused));
+        out.text(if self.target == [FILL; TARGET] {
+            b" kept"
         } else {
-            "written"
-        };
-        print!(self.rt; " refused {row} place {place} {target}")
+            b" written"
+        });
     }
 
     // The listed bytes, but for their last `less`.
     fn listed(&self, less: i64) -> Option<&[u8]> {
         let list = self.list.as_slice();
-        list.get(..list.len().checked_sub(to_usize(less)?)?)
+        list.get(..list.len().checked_sub(to_usize(less))?)
     }
 
     // A block of the listed records, but for their last `less` bytes, in a target of `size` bytes. A block that was formed goes behind the run, and the
     // list is empty.
-    fn form(&mut self, edition: u8, size: i64, less: i64) -> io::Result<()> {
+    fn form(&mut self, out: &mut Out, edition: u8, size: i64, less: i64) {
         let mut target = [FILL; TARGET];
-        let Some(bytes) = self.listed(less) else {
-            return self.no_room();
-        };
-        let Some(asked) = asked(&mut target, size) else {
-            return self.no_room();
+        let (Some(bytes), Some(asked)) = (self.listed(less), asked(&mut target, size)) else {
+            return no_room(out);
         };
         let answer = file::append(self.state, edition, bytes, asked);
         self.target = target;
-        self.tell(answer.err())?;
+        self.tell(out, answer.err());
         let Ok(after) = answer else {
-            return Ok(());
+            return;
         };
         self.state = after;
         let Some(block) = self.run.get_mut(self.formed) else {
-            return self.no_room();
+            return no_room(out);
         };
         block.copy_from_slice(&self.target[..BLOCK]);
         self.formed += 1;
         self.list.clear();
-        Ok(())
     }
 
     // A closing after the listed records, but for their last `less` bytes, in a target of `size` bytes. One that was made is the prepared record.
     // Like `form`, and no shorter with what they share in a function that takes the call.
-    fn make(&mut self, edition: u8, closing: Closing, size: i64, less: i64) -> io::Result<()> {
+    fn make(&mut self, out: &mut Out, edition: u8, closing: Closing, size: i64, less: i64) {
         let mut target = [FILL; TARGET];
-        let Some(bytes) = self.listed(less) else {
-            return self.no_room();
-        };
-        let Some(asked) = asked(&mut target, size) else {
-            return self.no_room();
+        let (Some(bytes), Some(asked)) = (self.listed(less), asked(&mut target, size)) else {
+            return no_room(out);
         };
         let answer = file::make_closing(self.state, edition, bytes, closing, asked);
         self.target = target;
-        self.tell(answer.err())?;
+        self.tell(out, answer.err());
         if answer.is_ok() {
             self.record.copy_from_slice(&self.target[..40]);
         }
-        Ok(())
     }
 
     // The first `size` bytes of the run.
-    fn take(&mut self, size: usize) -> io::Result<()> {
+    fn take(&mut self, out: &mut Out, size: usize) {
         let Some(run) = self.run.as_flattened().get(..size) else {
-            return self.no_room();
+            return no_room(out);
         };
         let r = file::take(self.state, run);
         self.state = r.state;
-        let (row, place) = row_and_place(r.ended.err());
-        print!(self.rt;
-            " blocks {} refused {row} place {place} next {}",
-            r.blocks, r.state.next
-        )
+        let [row, place] = row_and_place(r.ended.err());
+        let figures = [r.blocks.cast_signed(), row, place, i64::from(r.state.next)];
+        out.labelled(b" blocks # refused # place # next #", &figures);
     }
 
     // A byte of the run is changed.
-    fn poke(&mut self, at: usize, byte: u8) -> io::Result<()> {
-        let Some(place) = self.run.as_flattened_mut().get_mut(at) else {
-            return self.no_room();
-        };
-        *place = byte;
-        Ok(())
+    fn poke(&mut self, out: &mut Out, at: usize, byte: u8) {
+        match self.run.as_flattened_mut().get_mut(at) {
+            Some(place) => *place = byte,
+            None => no_room(out),
+        }
     }
 
     // A block of the run gets its check.
-    fn seal(&mut self, block: usize) -> io::Result<()> {
+    fn seal(&mut self, out: &mut Out, block: usize) {
         let Some(block) = self.run.get_mut(block) else {
-            return self.no_room();
+            return no_room(out);
         };
         let check = file::check(&block[..510]);
         block[510..].copy_from_slice(&check.to_le_bytes());
-        Ok(())
     }
 
     // Bytes of the target, in hexadecimal.
-    fn bytes(&self, from: usize, to: usize) -> io::Result<()> {
+    fn bytes(&self, out: &mut Out, from: usize, to: usize) {
         let Some(bytes) = self.target.get(from..to) else {
-            return self.no_room();
+            return no_room(out);
         };
-        print!(self.rt; " ")?;
-        for byte in bytes {
-            print!(self.rt; "{byte:02x}")?;
-        }
-        Ok(())
+        out.text(b" ");
+        out.hexadecimal(bytes);
     }
 
-    fn show(&self) -> io::Result<()> {
+    fn show(&self, out: &mut Out) {
         let st = &self.state;
-        print!(self.rt; " minute {} zero {}", st.minute, readings(st.zero))?;
-        print!(self.rt; " span {} pairs {}", readings(st.span), st.waiting)?;
-        print!(self.rt;
-            " total {} outside {} over {}",
-            st.tally.total, st.tally.outside, st.over
-        )?;
-        print!(self.rt; " call {} calibration ", Or(st.demand, "-"))?;
-        match st.calibration {
-            Some(f) => print!(self.rt; "{} {} {} {}", f.slope, f.intercept, f.top.0, f.minute),
-            None => print!(self.rt; "-"),
-        }
+        out.labelled(b" minute #", &[i64::from(st.minute)]);
+        out.or_none(b" zero ", readings(st.zero));
+        out.or_none(b" span ", readings(st.span));
+        let figures = [
+            i64::from(st.waiting),
+            i64::from(st.tally.total),
+            i64::from(st.tally.outside),
+            i64::from(st.over),
+        ];
+        out.labelled(b" pairs # total # outside # over #", &figures);
+        out.or_none(b" call ", st.demand);
+        let Some(f) = st.calibration else {
+            return out.text(b" calibration -");
+        };
+        let figures = [
+            i64::from(f.slope),
+            f.intercept,
+            i64::from(f.top.0),
+            i64::from(f.minute),
+        ];
+        out.labelled(b" calibration # # # #", &figures);
     }
 
     // A line for each chart.
-    fn charts(&self) -> io::Result<()> {
+    fn charts(&self, out: &mut Out) {
         let st = &self.state;
-        charts_cases::show(self.rt, b"zero", st.setting.zero, st.zero)?;
-        charts_cases::show(self.rt, b"span", st.setting.span, st.span)
+        charts_cases::show(out, b"zero", st.setting.zero, st.zero);
+        charts_cases::show(out, b"span", st.setting.span, st.span);
     }
 
     // The six alarms and usable.
-    fn report(&self) -> io::Result<()> {
+    fn report(&self, out: &mut Out) {
         let r = file::reporting::report(self.state);
-        print!(self.rt; " alarms ")?;
-        flags(self.rt, r.zero)?;
-        flags(self.rt, r.span)?;
-        // By hand: a bool prints true and false.
-        let usable = if r.usable { "yes" } else { "no" };
-        print!(self.rt; " usable {usable}")
+        let figures = [
+            r.zero.rising,
+            r.zero.falling,
+            r.zero.precision,
+            r.span.rising,
+            r.span.falling,
+            r.span.precision,
+        ];
+        out.labelled(b" alarms ######", &figures.map(i64::from));
+        out.text(if r.usable {
+            b" usable yes"
+        } else {
+            b" usable no"
+        });
     }
 }

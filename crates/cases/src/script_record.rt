@@ -3,28 +3,20 @@ use crate::script_words::{to_i32, to_u8, to_u32};
 use arrayvec::ArrayVec;
 use file::Closing;
 
-// The bytes of the fields: four of each, but eight of the intercept of a calibration closing.
-fn bytes_of_field(kind: i64, fields: &[i64]) -> Option<ArrayVec<u8, 32>> {
-    let mut all = ArrayVec::new();
+// The forty bytes of a record: kind, mark and minute, and the fields from byte 8 on: four bytes of each, but eight of the intercept of a calibration
+// closing.
+pub fn record(kind: u8, mark: u8, minute: u32, fields: &[i64]) -> Option<[u8; 40]> {
+    let mut all = ArrayVec::<u8, 32>::new();
     for (i, field) in fields.iter().enumerate() {
-        let bytes = field.to_le_bytes();
-        all.try_extend_from_slice(&bytes[..4]).ok()?;
-        if kind == 5 && i == 2 {
-            all.try_extend_from_slice(&bytes[4..]).ok()?;
-        }
+        let size = if kind == 5 && i == 2 { 8 } else { 4 };
+        all.try_extend_from_slice(&field.to_le_bytes()[..size])
+            .ok()?;
     }
-    Some(all)
-}
-
-// The forty bytes of a record: kind, mark and minute, and the fields from byte 8 on.
-pub fn record(kind: i64, mark: i64, minute: i64, fields: &[i64]) -> Option<[u8; 40]> {
-    let minute = to_u32(minute)?;
-    let fields = bytes_of_field(kind, fields)?;
     let mut record = [0; 40];
-    record[0] = to_u8(kind)?;
-    record[1] = to_u8(mark)?;
+    record[0] = kind;
+    record[1] = mark;
     record[4..8].copy_from_slice(&minute.to_le_bytes());
-    for (place, byte) in record[8..].iter_mut().zip(fields.as_slice()) {
+    for (place, byte) in record[8..].iter_mut().zip(all.as_slice()) {
         *place = *byte;
     }
     Some(record)
@@ -36,10 +28,10 @@ pub fn move_on(record: &mut [u8; 40], d: u32) {
     record[4..8].copy_from_slice(&minute.to_le_bytes());
 }
 
-pub fn closing(kind: i64, minute: i64, z: i64) -> Option<Closing> {
-    Some(Closing {
-        kind: to_u8(kind)?,
-        minute: to_u32(minute)?,
-        z: to_i32(z)?,
-    })
+pub fn closing(kind: i64, minute: i64, z: i64) -> Closing {
+    Closing {
+        kind: to_u8(kind),
+        minute: to_u32(minute),
+        z: to_i32(z),
+    }
 }

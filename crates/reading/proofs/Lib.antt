@@ -1,3 +1,2 @@
 pub mod Behind
 pub mod TellingLaws
-pub mod BufferLaws

@@ -3,7 +3,7 @@ use crate::{RunError, run};
 use std::io::{Error, ErrorKind, Read, Result, Write};
 use std::test::Fail;
 
-// Gives so many bytes one at a time, and then fails.
+// Gives `left` bytes one at a time, and then fails.
 #[derive(Drop)]
 struct Failing {
     left: usize,
