@@ -66,20 +66,24 @@ impl Script {
         None
     }
 
-    // A line; where it says so, the lines above once more.
-    fn all(&mut self, script: &[u8]) {
-        for (i, line) in script.split(|b| *b == b'\n').enumerate() {
-            let Some(edition) = self.line(line) else {
-                continue;
-            };
-            self.out.labelled(b"edition #", &[i64::from(edition)]);
-            self.out.text(b"\n");
-            self.layers.edition = edition;
-            for line in script.split(|b| *b == b'\n').take(i) {
-                if self.line(line).is_some() {
-                    self.out.unknown();
-                }
+    fn lines(&mut self, script: &[u8]) {
+        for line in script.split(|b| *b == b'\n') {
+            if self.line(line).is_some() {
+                self.out.unknown();
             }
+        }
+    }
+
+    // The lines, and where one says so those above it once more.
+    fn all(&mut self, script: &[u8]) {
+        let mut above = 0usize;
+        for line in script.split(|b| *b == b'\n') {
+            if let Some(edition) = self.line(line) {
+                self.out.print(b"edition #\n", &[i64::from(edition)]);
+                self.layers.edition = edition;
+                self.lines(script.get(..above).unwrap_or(&[]));
+            }
+            above = above.saturating_add(line.len()).saturating_add(1);
         }
     }
 }

@@ -6,17 +6,16 @@ use file::Closing;
 // The forty bytes of a record: kind, mark and minute, and the fields from byte 8 on: four bytes of each, but eight of the intercept of a calibration
 // closing.
 pub fn record(kind: u8, mark: u8, minute: u32, fields: &[i64]) -> Option<[u8; 40]> {
-    let mut all = ArrayVec::<u8, 32>::new();
+    let mut all = ArrayVec::<u8, 40>::new();
+    all.try_extend_from_slice(&[kind, mark, 0, 0]).ok()?;
+    all.try_extend_from_slice(&minute.to_le_bytes()).ok()?;
     for (i, field) in fields.iter().enumerate() {
         let size = if kind == 5 && i == 2 { 8 } else { 4 };
         all.try_extend_from_slice(&field.to_le_bytes()[..size])
             .ok()?;
     }
     let mut record = [0; 40];
-    record[0] = kind;
-    record[1] = mark;
-    record[4..8].copy_from_slice(&minute.to_le_bytes());
-    for (place, byte) in record[8..].iter_mut().zip(all.as_slice()) {
+    for (place, byte) in record.iter_mut().zip(all.as_slice()) {
         *place = *byte;
     }
     Some(record)

@@ -41,12 +41,3 @@ pub fn to_u32(n: i64) -> u32 {
 pub fn to_usize(n: i64) -> usize {
     usize::try_from(n).unwrap_or(usize::MAX)
 }
-
-// The first N numbers.
-pub fn fixed<const N: usize>(numbers: &[i64]) -> [i32; N] {
-    let mut fixed = [0; N];
-    for (place, n) in fixed.iter_mut().zip(numbers) {
-        *place = to_i32(*n);
-    }
-    fixed
-}
