@@ -33,7 +33,8 @@ impl Layers {
         }
     }
 
-    pub fn obey(&mut self, out: &mut Out, command: &Command) {
+    // Whether the command is one of these layers.
+    pub fn obey(&mut self, out: &mut Out, command: &Command) -> bool {
         let [a, b, c, ..] = command.numbers;
         match command.word {
             Word::Edition => self.edition = to_u8(a),
@@ -59,8 +60,10 @@ impl Layers {
             Word::Pairs => told(out, self.listed.list(command.from(0))),
             Word::Pair => told(out, self.listed.change(to_usize(a), b, c)),
             Word::Fit | Word::Lent => self.fit(out, command),
-            _ => self.annual(out, command),
+            Word::Annual => self.annual(out, command),
+            _ => return false,
         }
+        true
     }
 
     fn unsigned(&self, out: &mut Out, text: &[u8]) {

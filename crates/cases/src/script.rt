@@ -30,38 +30,12 @@ impl Script {
             self.out.unknown();
             return None;
         };
-        match command.word {
-            Word::Again => return Some(to_u8(command.numbers[0])),
-            Word::Edition
-            | Word::Near
-            | Word::Unsigned
-            | Word::Unstarted
-            | Word::Reset
-            | Word::Stop
-            | Word::Series
-            | Word::More
-            | Word::Chart
-            | Word::Fill
-            | Word::Sound
-            | Word::Standard
-            | Word::Value
-            | Word::Conditions
-            | Word::Pairs
-            | Word::Pair
-            | Word::Fit
-            | Word::Lent
-            | Word::Annual => self.layers.obey(&mut self.out, &command),
-            Word::List
-            | Word::Clear
-            | Word::Form
-            | Word::Make
-            | Word::Take
-            | Word::Poke
-            | Word::Seal
-            | Word::Bytes => self
-                .desk
-                .obey_file(&mut self.out, self.layers.edition, &command),
-            _ => self.desk.obey(&mut self.out, &command),
+        if matches!(command.word, Word::Again) {
+            return Some(to_u8(command.numbers[0]));
+        }
+        let (out, layers) = (&mut self.out, &mut self.layers);
+        if !layers.obey(out, &command) && !self.desk.obey_file(out, layers.edition, &command) {
+            self.desk.obey(out, &command);
         }
         None
     }

@@ -170,7 +170,7 @@ impl Command<'_> {
             self.take(kind, word)?;
         }
         match kinds.next() {
-            Some(b'1' | b'2' | b'4' | b'i' | b'n' | b'l') => None,
+            Some(kind) if !kind.is_ascii_uppercase() => None,
             _ => Some(()),
         }
     }

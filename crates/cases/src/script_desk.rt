@@ -127,8 +127,8 @@ impl Desk {
         }
     }
 
-    // Commands on records that are listed and on the run, in an edition.
-    pub fn obey_file(&mut self, out: &mut Out, edition: u8, command: &Command) {
+    // Commands on records that are listed and on the run, in an edition. Whether the command is one of them.
+    pub fn obey_file(&mut self, out: &mut Out, edition: u8, command: &Command) -> bool {
         let [a, b, c, d, e, ..] = command.numbers;
         match command.word {
             Word::List => self.list(out),
@@ -141,8 +141,10 @@ impl Desk {
             Word::Take => self.take(out, to_usize(a)),
             Word::Poke => self.poke(out, to_usize(a), to_u8(b)),
             Word::Seal => self.seal(out, to_usize(a)),
-            _ => self.bytes(out, to_usize(a), to_usize(b)),
+            Word::Bytes => self.bytes(out, to_usize(a), to_usize(b)),
+            _ => return false,
         }
+        true
     }
 
     fn prepare(&mut self, out: &mut Out, command: &Command) {

@@ -7,12 +7,16 @@ use file::Closing;
 // closing.
 pub fn record(kind: u8, mark: u8, minute: u32, fields: &[i64]) -> Option<[u8; 40]> {
     let mut all = ArrayVec::<u8, 40>::new();
-    all.try_extend_from_slice(&[kind, mark, 0, 0]).ok()?;
-    all.try_extend_from_slice(&minute.to_le_bytes()).ok()?;
+    let [a, b, c, d] = minute.to_le_bytes();
+    let _ = all.try_extend_from_slice(&[kind, mark, 0, 0, a, b, c, d]);
     for (i, field) in fields.iter().enumerate() {
         let size = if kind == 5 && i == 2 { 8 } else { 4 };
-        all.try_extend_from_slice(&field.to_le_bytes()[..size])
-            .ok()?;
+        if all
+            .try_extend_from_slice(&field.to_le_bytes()[..size])
+            .is_err()
+        {
+            return None;
+        }
     }
     let mut record = [0; 40];
     for (place, byte) in record.iter_mut().zip(all.as_slice()) {
