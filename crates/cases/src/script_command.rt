@@ -56,8 +56,9 @@ pub enum Word {
     Bytes,
 }
 
-// Each word, with what it takes behind it: t, the rest of the line as it is; or w, a name, and the kinds of its numbers. A kind is the bytes of an unsigned
-// number, or i for one of 32 bits, n for one that is not below 0, and l for any. Q and S are 4 and l that may be missing; I and L are any number of i and l.
+// Each word, with what it takes behind it: t, the rest of the line as it is; or w, a name, and the kinds of its
+// numbers. A kind is the bytes of an unsigned number, or i for one of 32 bits, n for one that is not below 0, and l for
+// any. Q and S are 4 and l that may be missing; I and L, which stand last, are any number of i and l.
 static WORDS: [(&[u8], Word); 43] = [
     (b"again 1", Word::Again),
     (b"case t", Word::Case),
@@ -128,7 +129,8 @@ fn fits(kind: u8, n: i64) -> bool {
     least <= n && n <= most
 }
 
-// A command, with its name or its text, and its numbers: 0 for those that are not there. They are there in 32 bits too: 0 where one does not fit.
+// A command, with its name or its text, and its numbers: 0 for those that are not there. `small` has them in 32 bits, 0
+// where one does not fit.
 #[derive(Drop)]
 pub struct Command<'a> {
     pub word: Word,
@@ -156,7 +158,8 @@ impl Command<'_> {
         Some(())
     }
 
-    // Takes the numbers of a part of a line, with spaces between them, if they are as many of these kinds, and nothing else stands there.
+    // Takes the numbers of a part of a line, with spaces between them. None where they are not those that the kinds ask
+    // for, or something else stands there.
     fn take_all(&mut self, kinds: &[u8], text: &[u8]) -> Option<()> {
         let mut kinds = kinds.iter();
         let mut kind = b' ';
