@@ -18,11 +18,10 @@ pub fn record(kind: u8, mark: u8, minute: u32, fields: &[i64]) -> Option<[u8; 40
             return None;
         }
     }
-    let mut record = [0; 40];
-    for (place, byte) in record.iter_mut().zip(all.as_slice()) {
-        *place = *byte;
+    for _ in all.len()..40 {
+        let _ = all.try_push(0);
     }
-    Some(record)
+    all.into_inner().ok()
 }
 
 // Moves the minute on by d.
