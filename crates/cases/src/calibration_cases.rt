@@ -64,8 +64,7 @@ pub fn tell_value(out: &mut Out, value: Option<i32>) {
     let Some(v) = value else {
         return out.text(b" outside\n");
     };
-    out.labelled(b" is #", &[i64::from(v)]);
-    out.text(b"\n");
+    out.print(b" is #\n", &[i64::from(v)]);
 }
 
 // The row that refuses a fit, 0 for none, and its figures, each 0 where it is refused.
@@ -82,8 +81,7 @@ pub fn tell_fit(out: &mut Out, fit: Option<Result<Figures, Refusal>>) {
         Some(Err(row)) => [i64::from(row.number()), 0, 0, 0, 0, 0],
         None => return out.text(b" outside\n"),
     };
-    out.labelled(b" refusal # passed # B # A # top # N #", &figures);
-    out.text(b"\n");
+    out.print(b" refusal # passed # B # A # top # N #\n", &figures);
 }
 
 // The row that refuses an annual test, and its two verdicts likewise.
@@ -93,6 +91,5 @@ pub fn tell_annual(out: &mut Out, test: Option<Result<Verdicts, Refusal>>) {
         Some(Err(row)) => [i64::from(row.number()), 0, 0],
         None => return out.text(b" outside\n"),
     };
-    out.labelled(b" refusal # variability # function #", &figures);
-    out.text(b"\n");
+    out.print(b" refusal # variability # function #\n", &figures);
 }

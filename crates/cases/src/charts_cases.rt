@@ -36,11 +36,10 @@ pub fn show(out: &mut Out, name: &[u8], s: u16, c: Chart) {
         i64::from(a.precision),
     ];
     out.text(name);
-    out.labelled(
-        b" s # d # P # # M # # V # # off # on # alarms ###",
+    out.print(
+        b" s # d # P # # M # # V # # off # on # alarms ###\n",
         &figures,
     );
-    out.text(b"\n");
 }
 
 // Applies the differences one after the other, with a line for each.
@@ -68,6 +67,5 @@ pub fn sound(out: &mut Out, name: &[u8], readings: u32, last: i32, p: Sum) {
     c.rising = p;
     out.text(b"sound ");
     out.text(name);
-    out.labelled(b" #", &[i64::from(c.sound())]);
-    out.text(b"\n");
+    out.print(b" #\n", &[i64::from(c.sound())]);
 }

@@ -2,7 +2,7 @@
 use crate::listed_pairs::Listed;
 use crate::print::Out;
 use crate::script_command::{Command, Word};
-use crate::script_words::{first_word, fixed, to_i32, to_u8, to_u16, to_u32, to_usize, unsigned};
+use crate::script_words::{first_word, to_i32, to_u8, to_u16, to_u32, to_usize, unsigned};
 use crate::{calibration_cases as calls, charts_cases, rounding_cases};
 use calibration::{Basis, Conditions, Line, Requirements};
 use charts::{Chart, Sum};
@@ -33,11 +33,12 @@ impl Layers {
         }
     }
 
-    pub fn obey(&mut self, out: &mut Out, command: &Command) {
-        let n = &command.numbers;
+    // Whether the command is one of these layers.
+    pub fn obey(&mut self, out: &mut Out, command: &Command) -> bool {
+        let [a, b, c, ..] = command.numbers;
         match command.word {
-            Word::Edition => self.edition = to_u8(n[0]),
-            Word::Near => rounding_cases::near(out, self.edition, n[0], n[1]),
+            Word::Edition => self.edition = to_u8(a),
+            Word::Near => rounding_cases::near(out, self.edition, a, b),
             Word::Unsigned => self.unsigned(out, command.text),
             Word::Unstarted => self.chart = charts::unstarted(),
             Word::Reset => self.chart = self.chart.reset(),
@@ -47,20 +48,22 @@ impl Layers {
                 self.more(out, command);
             }
             Word::More => self.more(out, command),
-            Word::Chart => charts_cases::show(out, command.text, to_u16(n[0]), self.chart),
+            Word::Chart => charts_cases::show(out, command.text, to_u16(a), self.chart),
             Word::Fill => {
-                let s = to_u16(n[1]);
-                charts_cases::fill(self.edition, &mut self.chart, n[0], s, command.from(2));
+                let s = to_u16(b);
+                charts_cases::fill(self.edition, &mut self.chart, a, s, command.from(2));
             }
             Word::Sound => sound(out, command),
             Word::Standard => self.standard(out, command),
             Word::Value => self.value(out, command),
-            Word::Conditions => self.conditions(n),
+            Word::Conditions => self.conditions(command),
             Word::Pairs => told(out, self.listed.list(command.from(0))),
-            Word::Pair => told(out, self.listed.change(to_usize(n[0]), n[1], n[2])),
+            Word::Pair => told(out, self.listed.change(to_usize(a), b, c)),
             Word::Fit | Word::Lent => self.fit(out, command),
-            _ => self.annual(out, command),
+            Word::Annual => self.annual(out, command),
+            _ => return false,
         }
+        true
     }
 
     fn unsigned(&self, out: &mut Out, text: &[u8]) {
@@ -79,22 +82,22 @@ impl Layers {
     // ---- calibration
 
     fn standard(&self, out: &mut Out, command: &Command) {
-        let [v, t, p, h, o, reference] = fixed::<6>(&command.numbers);
+        let [v, t, p, h, o, reference, ..] = command.small;
         let k = conditions_of(t, p, h, o);
         let value = calls::try_standard(self.edition, reference, k, v);
-        out.labelled(b"standard # t # p # h # o # reference #", command.from(0));
+        out.print(b"standard # t # p # h # o # reference #", command.from(0));
         calls::tell_value(out, value);
     }
 
     fn value(&self, out: &mut Out, command: &Command) {
-        let [x, slope, _, t, p, h, o, reference] = fixed::<8>(&command.numbers);
+        let [x, slope, _, t, p, h, o, reference, ..] = command.small;
         let k = conditions_of(t, p, h, o);
         let l = Line {
             slope,
             intercept: command.numbers[2],
         };
         let value = calls::try_value(self.edition, reference, l, k, x);
-        out.labelled(
+        out.print(
             b"value # B # A # t # p # h # o # reference #",
             command.from(0),
         );
@@ -102,8 +105,8 @@ impl Layers {
     }
 
     // The conditions that pairs are listed with.
-    fn conditions(&mut self, numbers: &[i64]) {
-        let [t, p, h, o, t2, p2, h2, o2] = fixed::<8>(numbers);
+    fn conditions(&mut self, command: &Command) {
+        let [t, p, h, o, t2, p2, h2, o2, ..] = command.small;
         self.listed.first = conditions_of(t, p, h, o);
         self.listed.others = conditions_of(t2, p2, h2, o2);
     }
@@ -120,7 +123,7 @@ impl Layers {
     }
 
     fn fit(&mut self, out: &mut Out, command: &Command) {
-        let [_, limit, uncertainty, oxygen, z] = fixed::<5>(&command.numbers);
+        let [_, limit, uncertainty, oxygen, z, ..] = command.small;
         let b = self.basis(limit, uncertainty, oxygen);
         let Some(pairs) = self.listed.first(to_usize(command.numbers[0])) else {
             return out.unknown();
@@ -130,12 +133,12 @@ impl Layers {
             _ => calls::try_fit(pairs, b, z),
         };
         out.text(command.text);
-        out.labelled(b" n # E # sigma # reference # Z #", command.from(0));
+        out.print(b" n # E # sigma # reference # Z #", command.from(0));
         calls::tell_fit(out, fit);
     }
 
     fn annual(&mut self, out: &mut Out, command: &Command) {
-        let [limit, _, uncertainty, oxygen, slope] = fixed::<5>(&command.numbers);
+        let [limit, _, uncertainty, oxygen, slope, ..] = command.small;
         let b = self.basis(limit, uncertainty, oxygen);
         let l = Line {
             slope,
@@ -146,7 +149,7 @@ impl Layers {
         };
         let test = calls::try_annual(pairs, b, l);
         out.text(command.text);
-        out.labelled(b" n # sigma # reference # B # A #", command.from(1));
+        out.print(b" n # sigma # reference # B # A #", command.from(1));
         calls::tell_annual(out, test);
     }
 }

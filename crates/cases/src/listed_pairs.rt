@@ -30,7 +30,7 @@ impl Listed {
     }
 
     // A pair more, where there is room.
-    fn push(&mut self, signal: i64, value: i64) -> Option<()> {
+    fn push(&mut self, signal: i64, value: i64) {
         let conditions = if self.pairs.is_empty() {
             self.first
         } else {
@@ -41,34 +41,42 @@ impl Listed {
             srm: Actual(to_i32(value)),
             conditions,
         };
-        self.pairs.try_push(pair).ok()
+        let _ = self.pairs.try_push(pair);
     }
 
-    // Signals, each with its SRM value, in the place of what was listed.
+    // Signals, each with its SRM value, in the place of what was listed. None where a value is missing.
     pub fn list(&mut self, figures: &[i64]) -> Option<()> {
         self.pairs.clear();
         for figures in figures.chunks(2) {
-            let [signal, value] = figures else {
-                return None;
-            };
-            self.push(*signal, *value)?;
+            match figures {
+                [signal, value] => self.push(*signal, *value),
+                _ => return None,
+            }
         }
         Some(())
     }
 
+    // Lists the last pair again, up to n pairs.
+    fn fill(&mut self, n: usize) {
+        let Some(last) = self.pairs.as_slice().last() else {
+            return;
+        };
+        let last = *last;
+        for _ in self.pairs.len()..n {
+            let _ = self.pairs.try_push(last);
+        }
+    }
+
     // The first n pairs; past the end, the last again.
     pub fn first(&mut self, n: usize) -> Option<&[Pair]> {
-        for _ in self.pairs.len()..n {
-            let last = *self.pairs.last()?;
-            self.pairs.try_push(last).ok()?;
-        }
+        self.fill(n);
         self.pairs.as_slice().get(..n)
     }
 
     // Another signal and SRM value for the nth pair; past the end, the last again.
     pub fn change(&mut self, n: usize, signal: i64, value: i64) -> Option<()> {
-        self.first(n)?;
-        let pair = self.pairs.get_mut(n.checked_sub(1)?)?;
+        self.fill(n);
+        let pair = self.pairs.get_mut(n.wrapping_sub(1))?;
         pair.signal = to_i32(signal);
         pair.srm = Actual(to_i32(value));
         Some(())

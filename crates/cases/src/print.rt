@@ -53,11 +53,15 @@ impl Out {
         self.unsigned(n.unsigned_abs());
     }
 
-    // Numbers, each behind its label, which ends before a `#`.
-    pub fn labelled(&mut self, labels: &[u8], numbers: &[i64]) {
-        for (label, n) in labels.split(|b| *b == b'#').zip(numbers) {
-            self.text(label);
-            self.number(*n);
+    // A text, with the numbers in the places of its `#`s.
+    pub fn print(&mut self, text: &[u8], numbers: &[i64]) {
+        let mut numbers = numbers.iter();
+        for byte in text {
+            if *byte != b'#' {
+                self.text(&[*byte]);
+            } else if let Some(n) = numbers.next() {
+                self.number(*n);
+            }
         }
     }
 

@@ -3,12 +3,11 @@ use crate::print::Out;
 
 // The range: n within 2^62 of 0, d from 1 to 2^61.
 pub fn near(out: &mut Out, edition: u8, n: i64, d: i64) {
-    out.labelled(b"near #/#", &[n, d]);
+    out.print(b"near #/#", &[n, d]);
     if 1 << 62 < n.unsigned_abs() || d <= 0 || 1 << 61 < d {
         return out.text(b" outside\n");
     }
-    out.labelled(b" #", &[charts::near(edition, n, d)]);
-    out.text(b"\n");
+    out.print(b" #\n", &[charts::near(edition, n, d)]);
 }
 
 // The same over every u64, but for d 0.

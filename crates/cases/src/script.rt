@@ -30,56 +30,34 @@ impl Script {
             self.out.unknown();
             return None;
         };
-        match command.word {
-            Word::Again => return Some(to_u8(command.numbers[0])),
-            Word::Edition
-            | Word::Near
-            | Word::Unsigned
-            | Word::Unstarted
-            | Word::Reset
-            | Word::Stop
-            | Word::Series
-            | Word::More
-            | Word::Chart
-            | Word::Fill
-            | Word::Sound
-            | Word::Standard
-            | Word::Value
-            | Word::Conditions
-            | Word::Pairs
-            | Word::Pair
-            | Word::Fit
-            | Word::Lent
-            | Word::Annual => self.layers.obey(&mut self.out, &command),
-            Word::List
-            | Word::Clear
-            | Word::Form
-            | Word::Make
-            | Word::Take
-            | Word::Poke
-            | Word::Seal
-            | Word::Bytes => self
-                .desk
-                .obey_file(&mut self.out, self.layers.edition, &command),
-            _ => self.desk.obey(&mut self.out, &command),
+        if matches!(command.word, Word::Again) {
+            return Some(to_u8(command.numbers[0]));
+        }
+        let (out, layers) = (&mut self.out, &mut self.layers);
+        if !layers.obey(out, &command) && !self.desk.obey_file(out, layers.edition, &command) {
+            self.desk.obey(out, &command);
         }
         None
     }
 
-    // A line; where it says so, the lines above once more.
-    fn all(&mut self, script: &[u8]) {
-        for (i, line) in script.split(|b| *b == b'\n').enumerate() {
-            let Some(edition) = self.line(line) else {
-                continue;
-            };
-            self.out.labelled(b"edition #", &[i64::from(edition)]);
-            self.out.text(b"\n");
-            self.layers.edition = edition;
-            for line in script.split(|b| *b == b'\n').take(i) {
-                if self.line(line).is_some() {
-                    self.out.unknown();
-                }
+    fn lines(&mut self, script: &[u8]) {
+        for line in script.split(|b| *b == b'\n') {
+            if self.line(line).is_some() {
+                self.out.unknown();
             }
+        }
+    }
+
+    // The lines, and where one says so those above it once more.
+    fn all(&mut self, script: &[u8]) {
+        let mut above = 0usize;
+        for line in script.split(|b| *b == b'\n') {
+            if let Some(edition) = self.line(line) {
+                self.out.print(b"edition #\n", &[i64::from(edition)]);
+                self.layers.edition = edition;
+                self.lines(script.get(..above).unwrap_or(&[]));
+            }
+            above = above.saturating_add(line.len()).saturating_add(1);
         }
     }
 }

@@ -93,13 +93,12 @@ impl Desk {
             Err(row) => row.number(),
         };
         out.text(title);
-        out.labelled(b": #", &[i64::from(row)]);
-        out.text(b"\n");
+        out.print(b": #\n", &[i64::from(row)]);
     }
 
     // Commands on the state.
     pub fn obey(&mut self, out: &mut Out, command: &Command) {
-        let n = &command.numbers;
+        let [a, b, ..] = command.numbers;
         match command.word {
             Word::Case => {
                 out.text(command.text);
@@ -107,20 +106,20 @@ impl Desk {
             }
             Word::Try => self.attempt(out, command.text),
             Word::Check => show_check(out, command.text),
-            Word::New => self.state = records::initial(to_u32(n[0])),
+            Word::New => self.state = records::initial(to_u32(a)),
             Word::Record => self.prepare(out, command),
-            Word::Byte => match self.record.get_mut(to_usize(n[0])) {
-                Some(place) => *place = to_u8(n[1]),
+            Word::Byte => match self.record.get_mut(to_usize(a)) {
+                Some(place) => *place = to_u8(b),
                 None => out.unknown(),
             },
             Word::Apply => {
-                let times = if command.count == 0 { 1 } else { n[0] };
-                self.apply(out, times, to_u32(n[1]));
+                let times = if command.count == 0 { 1 } else { a };
+                self.apply(out, times, to_u32(b));
             }
             Word::Keep => self.kept = self.state,
             Word::Back => self.state = self.kept,
-            Word::Expect => self.state.next = to_u32(n[0]),
-            Word::Open => self.state.edition = to_u8(n[0]),
+            Word::Expect => self.state.next = to_u32(a),
+            Word::Open => self.state.edition = to_u8(a),
             Word::Show => self.show(out),
             Word::Charts => self.charts(out),
             Word::Report => self.report(out),
@@ -128,28 +127,24 @@ impl Desk {
         }
     }
 
-    // Commands on records that are listed and on the run, in an edition.
-    pub fn obey_file(&mut self, out: &mut Out, edition: u8, command: &Command) {
-        let n = &command.numbers;
+    // Commands on records that are listed and on the run, in an edition. Whether the command is one of them.
+    pub fn obey_file(&mut self, out: &mut Out, edition: u8, command: &Command) -> bool {
+        let [a, b, c, d, e, ..] = command.numbers;
         match command.word {
             Word::List => self.list(out),
             Word::Clear => {
                 self.list.clear();
                 self.formed = 0;
             }
-            Word::Form => self.form(out, edition, n[0], n[1]),
-            Word::Make => self.make(
-                out,
-                edition,
-                script_record::closing(n[0], n[1], n[2]),
-                n[3],
-                n[4],
-            ),
-            Word::Take => self.take(out, to_usize(n[0])),
-            Word::Poke => self.poke(out, to_usize(n[0]), to_u8(n[1])),
-            Word::Seal => self.seal(out, to_usize(n[0])),
-            _ => self.bytes(out, to_usize(n[0]), to_usize(n[1])),
+            Word::Form => self.form(out, edition, a, b),
+            Word::Make => self.make(out, edition, script_record::closing(a, b, c), d, e),
+            Word::Take => self.take(out, to_usize(a)),
+            Word::Poke => self.poke(out, to_usize(a), to_u8(b)),
+            Word::Seal => self.seal(out, to_usize(a)),
+            Word::Bytes => self.bytes(out, to_usize(a), to_usize(b)),
+            _ => return false,
         }
+        true
     }
 
     fn prepare(&mut self, out: &mut Out, command: &Command) {
@@ -166,7 +161,7 @@ impl Desk {
         for _ in 0..times {
             match step(self.state, &self.record) {
                 Ok(after) => self.state = after,
-                Err(row) => return out.labelled(b" refused #", &[i64::from(row.number())]),
+                Err(row) => return out.print(b" refused #", &[i64::from(row.number())]),
             }
             script_record::move_on(&mut self.record, apart);
         }
@@ -181,7 +176,7 @@ impl Desk {
 
     // What a call answered, and whether the target has all its old bytes.
     fn tell(&self, out: &mut Out, refused: Option<Refused>) {
-        out.labelled(b" refused # place #", &row_and_place(refused));
+        out.print(b" refused # place #", &row_and_place(refused));
         out.text(if self.target == [FILL; TARGET] {
             b" kept"
         } else {
@@ -241,7 +236,7 @@ impl Desk {
         self.state = r.state;
         let [row, place] = row_and_place(r.ended.err());
         let figures = [r.blocks.cast_signed(), row, place, i64::from(r.state.next)];
-        out.labelled(b" blocks # refused # place # next #", &figures);
+        out.print(b" blocks # refused # place # next #", &figures);
     }
 
     // A byte of the run is changed.
@@ -272,7 +267,7 @@ impl Desk {
 
     fn show(&self, out: &mut Out) {
         let st = &self.state;
-        out.labelled(b" minute #", &[i64::from(st.minute)]);
+        out.print(b" minute #", &[i64::from(st.minute)]);
         out.or_none(b" zero ", readings(st.zero));
         out.or_none(b" span ", readings(st.span));
         let figures = [
@@ -281,7 +276,7 @@ impl Desk {
             i64::from(st.tally.outside),
             i64::from(st.over),
         ];
-        out.labelled(b" pairs # total # outside # over #", &figures);
+        out.print(b" pairs # total # outside # over #", &figures);
         out.or_none(b" call ", st.demand);
         let Some(f) = st.calibration else {
             return out.text(b" calibration -");
@@ -292,7 +287,7 @@ impl Desk {
             i64::from(f.top.0),
             i64::from(f.minute),
         ];
-        out.labelled(b" calibration # # # #", &figures);
+        out.print(b" calibration # # # #", &figures);
     }
 
     // A line for each chart.
@@ -313,7 +308,7 @@ impl Desk {
             r.span.falling,
             r.span.precision,
         ];
-        out.labelled(b" alarms ######", &figures.map(i64::from));
+        out.print(b" alarms ######", &figures.map(i64::from));
         out.text(if r.usable {
             b" usable yes"
         } else {

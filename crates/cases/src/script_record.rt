@@ -6,20 +6,22 @@ use file::Closing;
 // The forty bytes of a record: kind, mark and minute, and the fields from byte 8 on: four bytes of each, but eight of the intercept of a calibration
 // closing.
 pub fn record(kind: u8, mark: u8, minute: u32, fields: &[i64]) -> Option<[u8; 40]> {
-    let mut all = ArrayVec::<u8, 32>::new();
+    let mut all = ArrayVec::<u8, 40>::new();
+    let [a, b, c, d] = minute.to_le_bytes();
+    let _ = all.try_extend_from_slice(&[kind, mark, 0, 0, a, b, c, d]);
     for (i, field) in fields.iter().enumerate() {
         let size = if kind == 5 && i == 2 { 8 } else { 4 };
-        all.try_extend_from_slice(&field.to_le_bytes()[..size])
-            .ok()?;
+        if all
+            .try_extend_from_slice(&field.to_le_bytes()[..size])
+            .is_err()
+        {
+            return None;
+        }
     }
-    let mut record = [0; 40];
-    record[0] = kind;
-    record[1] = mark;
-    record[4..8].copy_from_slice(&minute.to_le_bytes());
-    for (place, byte) in record[8..].iter_mut().zip(all.as_slice()) {
-        *place = *byte;
+    for _ in all.len()..40 {
+        let _ = all.try_push(0);
     }
-    Some(record)
+    all.into_inner().ok()
 }
 
 // Moves the minute on by d.

@@ -20,7 +20,7 @@ pub fn unsigned(word: &[u8]) -> Option<u64> {
     str::from_utf8(word).ok()?.parse().ok()
 }
 
-// ---- a number of another type; those of a command fit, but for a size below 0, which is past every end
+// ---- a number of another type. The kinds of a command's numbers let through those that fit; a size below 0 is past every end
 
 pub fn to_u8(n: i64) -> u8 {
     u8::try_from(n).unwrap_or(0)
@@ -40,13 +40,4 @@ pub fn to_u32(n: i64) -> u32 {
 
 pub fn to_usize(n: i64) -> usize {
     usize::try_from(n).unwrap_or(usize::MAX)
-}
-
-// The first N numbers.
-pub fn fixed<const N: usize>(numbers: &[i64]) -> [i32; N] {
-    let mut fixed = [0; N];
-    for (place, n) in fixed.iter_mut().zip(numbers) {
-        *place = to_i32(*n);
-    }
-    fixed
 }
