@@ -12,8 +12,8 @@ use Rattle.charts.specs.ChartSoundness.{ChartSound}
 use Rattle.charts.specs.Tests.{if_all}
 use Rattle.records.specs.Record.{Record, kind, mark, minute, function_of, setting_of, waiting_of}
 use Rattle.records.specs.Kinds.{Point, at_zero, at_span, point_of, reads, resets, sets, is_pair, calibrates, is_passed, fails, empties, counts, no_values, raises_demand_of, Demand}
-use Rattle.records.specs.Table.{reading_refusal_of}
-use Rattle.records.proofs.TableLaws.{zero_open, span_open}
+use Rattle.records.specs.Table.{facts_at, chart_refusal_of, reading_refusal_of}
+use Rattle.records.proofs.TableLaws.{OpenAt, mark_open}
 use Rattle.records.specs.State.{chart_of, facts_of, chart_after, turns_from, judged_at, running_at, raised_of, applied_to}
 use Rattle.records.specs.StateParts.{with_reading, with_reset, with_pair, emptied, with_failure, with_function, with_calibration, with_period, with_annual, with_value, judged_of}
 use Rattle.records.specs.declared.state.State.{State}
@@ -99,13 +99,27 @@ module _ (st : State) (r : Record) where
   -- a reading that the table accepts finds room in its chart
   pub chart_room : reading_refusal_of (facts_of st) r ≡ 0 → (chart_of (point_of (mark r)) st).readings < 100000
   unfolding facts_of
-  chart_room e =
-      if_all (λ (c : Point). (chart_of c st).readings < 100000) (eqb (mark r) 0) at_zero at_span
-      (λ t. (zero_open (facts_of st) r e (eqb_yes t)).room)
-      (λ t. (span_open (facts_of st) r e (eqb_no t)).room)
+  chart_room e = go (point_of (mark r)) (mark_open (facts_of st) r e)
+    where
+      go : (c : Point) → OpenAt c (facts_of st) → (chart_of c st).readings < 100000
+      go at_zero o = o.room
+      go at_span o = o.room
 
   pub chart_sound : ChartSound st.zero → ChartSound st.span → ChartSound (chart_of (point_of (mark r)) st)
   chart_sound z s = if_all (λ (c : Point). ChartSound (chart_of c st)) (eqb (mark r) 0) at_zero at_span (λ t. z) (λ t. s)
+
+-- a state with the same charts refuses no other reading
+pub charts_alike : (st j : State) (r : Record) → j.zero ≡ st.zero → j.span ≡ st.span
+    → reading_refusal_of (facts_of st) r ≡ 0 → reading_refusal_of (facts_of j) r ≡ 0
+unfolding reading_refusal_of facts_of
+charts_alike st j r z s = go (point_of (mark r))
+  where
+    asked : Point → State → ℕ
+    asked c t = chart_refusal_of (facts_at c (facts_of t)).started (facts_at c (facts_of t)).readings
+
+    go : (c : Point) → asked c st ≡ 0 → asked c j ≡ 0
+    go at_zero e = rw z e
+    go at_span e = rw s e
 
 -- ---- a closing, by its mark
 

@@ -16,7 +16,7 @@ use Rattle.records.specs.Record.{Record, kind, mark, minute, minute_limit, setti
 use Rattle.records.specs.RecordLaws.{WaitingFields, setting_fields, setting_ranged_lem, reading_fields, reading_ranged_lem, waiting_fields, waiting_ranged_lem, z_field, z_ranged}
 use Rattle.records.specs.Kinds.{Point, at_zero, at_span, point_mark, deviation_of, reads, resets, sets, is_pair, empties, calibrates, comes_into_force, starts_period, counts, setting_after, calibration_after, no_values, one_more, exceeds_of, outside_by, line_of}
 use Rattle.records.specs.Table.{misplaced_of, pair_of_waiting, reading_refusal_of, refusal_in}
-use Rattle.records.proofs.TableLaws.{Accepted, accepted, reading_passed, zero_open, span_open, pair_passed, pair_passes, calibration_passed, calibration_passes, stored_line}
+use Rattle.records.proofs.TableLaws.{Accepted, accepted, reading_passed, chart_marked, pair_passed, pair_passes, calibration_passed, calibration_passes, stored_line}
 use Rattle.records.specs.State.{chart_of, no_pairs, initial_of, facts_of, chart_after, turns_from, judged_at, running_at, applied_to}
 use Rattle.records.specs.History.{waiting_in, function_in, tally_in, weeks_over}
 use Rattle.records.specs.Summary.{Position, chart_in, summary_of}
@@ -159,8 +159,8 @@ module _ (st : State) (r : Record) (A : Accepted (facts_of st) r) where
       (room c (reading_passed (facts_of st) r A k) (eqb_yes p.1), (reading_fields r (reading_ranged_lem r A.ranged k)).difference)
     where
       room : (c : Point) → reading_refusal_of (facts_of st) r ≡ 0 → mark r ≡ point_mark c → (chart_of c st).readings < 100000
-      room at_zero e m = (zero_open (facts_of st) r e m).room
-      room at_span e m = (span_open (facts_of st) r e (λ z. omega arith)).room
+      room at_zero e m = (chart_marked (facts_of st) r e at_zero m).room
+      room at_span e m = (chart_marked (facts_of st) r e at_span m).room
 
   new_setting_sound : BegunSound st.begun st.setting → SettingSound (setting_after r st.setting)
   unfolding sets

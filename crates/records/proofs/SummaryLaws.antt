@@ -15,7 +15,7 @@ use Rattle.records.specs.Lists.{those_since}
 use Rattle.records.specs.Record.{Record, kind, mark, minute, setting_of, difference_of, waiting_of}
 use Rattle.records.specs.Kinds.{Point, at_zero, at_span, point_mark, reads, resets, sets, is_pair, fails, empties, clears_demands, deviation_of, Demand}
 use Rattle.records.specs.Table.{Facts, misplaced_of, reading_refusal_of, refusal_in}
-use Rattle.records.proofs.TableLaws.{Accepted, accepted, reading_passed, pair_passed, zero_open, span_open, pair_passes}
+use Rattle.records.proofs.TableLaws.{Accepted, accepted, reading_passed, pair_passed, chart_marked, pair_passes}
 use Rattle.records.specs.History.{Entry, History, on, begun_in, last_minute, setting_in, started_in, readings_since, differences_in, waiting_in, function_in, tally_in, judged_on, weeks_over, week_demands, demands_in, oldest, first_demand, facts_in, refusal_of}
 use Rattle.records.specs.State.{no_pair, no_pairs, initial_of, facts_of, chart_after, judged_at, running_at, raised_of, applied_to}
 use Rattle.records.specs.WeekLaws.{Ordered, tally_step}
@@ -56,8 +56,8 @@ module _ (h : History) (x : Entry) (e : refusal_of h x ≡ 0) where
       by c (reading_passed f r told (eqb-true (kind r) 2 p.0)) (eqb-true (mark r) (point_mark c) p.1)
     where
       by : (c : Point) → reading_refusal_of f r ≡ 0 → mark r ≡ point_mark c → started_in c h ≡ true
-      by at_zero e m = (zero_open f r e m).started
-      by at_span e m = (span_open f r e (λ z. omega arith)).started
+      by at_zero e m = (chart_marked f r e at_zero m).started
+      by at_span e m = (chart_marked f r e at_span m).started
 
   -- a pair finds a place
   pub pair_fits : is_pair r ≡ true → length (waiting_in h) < 30

@@ -1,6 +1,6 @@
 -- What the table says of a record that it does not refuse.
 use Rattle.std.specs.Prelude.{◌≡◌, refl, Bool, true, false, not, ◌&&◌, List, map, ℕ, ◌-◌, ◌*◌, ◌≤◌, ◌<◌, leb, ltb, eqb, ℤ, pos, length, if◌then◌else◌}
-use Rattle.std.proofs.Common.{sym, ap, ◌∙◌, arith, ne_eqb}
+use Rattle.std.proofs.Common.{sym, ap, ◌∙◌, arith, ne_eqb, subst}
 use Rattle.std.proofs.lemmas.Bool.{and_parts, or_parts, leb-false, leb-true, ltb-false, not-false}
 use Rattle.std.proofs.lemmas.List.{length-map}
 use Rattle.std.specs.Int.Signed.{le_z}
@@ -12,9 +12,9 @@ use Rattle.calibration.specs.declared.line.Line.{Line}
 use Rattle.calibration.specs.declared.pairs.Pair.{Pair}
 use Rattle.calibration.specs.declared.pairs.Requirements.{Requirements}
 use Rattle.records.specs.Record.{Record, kind, mark, minute, minute_limit, formed_of, ranged_of, field_of, long_field_of, length_of, coverage_of, z_of, function_of}
-use Rattle.records.specs.Kinds.{response_of, line_of}
+use Rattle.records.specs.Kinds.{Point, at_zero, at_span, point_mark, point_of, response_of, line_of}
 use Rattle.records.proofs.SignedLaws.{same_is}
-use Rattle.records.specs.Table.{Facts, misplaced_of, untimely_of, chart_refusal_of, reading_refusal_of, last_of, follows, times_fit_of, pair_refusal_of, days_fit_of, pair_of_waiting, calibration_of, sameℤ, pass_mark_of, stores_fit_of, calibration_refusal_of, kind_refusal_of, refusal_in}
+use Rattle.records.specs.Table.{Facts, facts_at, misplaced_of, untimely_of, chart_refusal_of, reading_refusal_of, last_of, follows, times_fit_of, pair_refusal_of, days_fit_of, pair_of_waiting, calibration_of, sameℤ, pass_mark_of, stores_fit_of, calibration_refusal_of, kind_refusal_of, refusal_in}
 
 -- ---- the rows of every record
 
@@ -71,14 +71,21 @@ chart_open started readings e =
     let a = row_passed 14 (not started) tt e in
     record { started = not-false started a.0; room = leb-false 100000 readings (unfit 15 (leb 100000 readings) tt a.1) }
 
-module _ (f : Facts) (r : Record) (e : reading_refusal_of f r ≡ 0) where
-  pub zero_open : mark r ≡ 0 → Open f.zero_started f.zero_readings
-  unfolding reading_refusal_of
-  zero_open m = chart_open f.zero_started f.zero_readings (rw m at e)
+point_back : (c : Point) → point_of (point_mark c) ≡ c
+point_back at_zero = refl
+point_back at_span = refl
 
-  pub span_open : (mark r ≡ 0 → ⊥) → Open f.span_started f.span_readings
+abbrev pub OpenAt : Point → Facts → Type 0
+OpenAt c f = Open (facts_at c f).started (facts_at c f).readings
+
+-- a reading that is not refused finds the chart of its mark open
+module _ (f : Facts) (r : Record) (e : reading_refusal_of f r ≡ 0) where
+  pub mark_open : OpenAt (point_of (mark r)) f
   unfolding reading_refusal_of
-  span_open m = chart_open f.span_started f.span_readings (rw (ne_eqb (mark r) 0 m) at e)
+  mark_open = chart_open _ _ e
+
+  pub chart_marked : (c : Point) → mark r ≡ point_mark c → OpenAt c f
+  chart_marked c m = subst (λ (d : Point). OpenAt d f) (ap point_of m ∙ point_back c) mark_open
 
 pub record PairPasses (f : Facts) (r : Record) : Type 0 where
   pub room : length f.waiting < 30

@@ -8,7 +8,7 @@ use Rattle.charts.specs.Runs.{Alarm, Stands}
 use Rattle.records.specs.Lists.{since, those, any}
 use Rattle.records.specs.Record.{Record, minute, difference_of, waiting_of}
 use Rattle.records.specs.Kinds.{Point, no_setting, at_zero, at_span, reads, resets, is_pair, fails, empties, clears_demands, starts_period, counts, setting_after, calibration_after, deviation_of, week_of, outside_by, no_values, one_more, exceeds_of, raises_demand_of, Calibration}
-use Rattle.records.specs.Table.{Facts, refusal_in}
+use Rattle.records.specs.Table.{ChartFacts, Facts, refusal_in}
 use Rattle.records.specs.declared.state.Setting.{Setting}
 use Rattle.records.specs.declared.state.Waiting.{Waiting}
 use Rattle.records.specs.declared.state.Tally.{Tally}
@@ -163,16 +163,17 @@ abbrev pub begun_in : History → Bool
 begun_in [] = false
 begun_in (r ∷ h) = true
 
+abbrev pub chart_facts_in : Point → History → ChartFacts
+chart_facts_in c h = record { started = started_in c h; readings = length (differences_in c h) }
+
 -- the facts for a next record, in a block of some edition
 unfoldable pub facts_in : ℕ → History → Facts
 facts_in edition h = record {
   begun = begun_in h;
   minute = last_minute h;
   setting = setting_in h;
-  zero_started = started_in at_zero h;
-  zero_readings = length (differences_in at_zero h);
-  span_started = started_in at_span h;
-  span_readings = length (differences_in at_span h);
+  zero = chart_facts_in at_zero h;
+  span = chart_facts_in at_span h;
   waiting = waiting_in h;
   calibration = function_in h;
   edition = edition;

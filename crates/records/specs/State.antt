@@ -8,7 +8,7 @@ use Rattle.charts.specs.Charts.{blank, reset_of, applied_of}
 use Rattle.charts.specs.declared.Chart.{Chart}
 use Rattle.records.specs.Record.{Record, minute, difference_of, waiting_of}
 use Rattle.records.specs.Kinds.{Point, no_setting, at_zero, at_span, reads, resets, is_pair, fails, empties, clears_demands, starts_period, counts, setting_after, calibration_after, deviation_of, week_of, outside_by, no_values, one_more, exceeds_of, raises_demand_of, Demand}
-use Rattle.records.specs.Table.{Facts, refusal_in}
+use Rattle.records.specs.Table.{ChartFacts, Facts, refusal_in}
 use Rattle.records.specs.declared.state.Setting.{Setting}
 use Rattle.records.specs.declared.state.Waiting.{Waiting}
 use Rattle.records.specs.declared.state.State.{State}
@@ -50,15 +50,16 @@ initial_of analyser = record {
 
 -- ---- the refusal of a record
 
+abbrev pub chart_facts : Chart → ChartFacts
+chart_facts k = record { started = k.started; readings = k.readings }
+
 unfoldable pub facts_of : State → Facts
 facts_of st = record {
   begun = st.begun;
   minute = st.minute;
   setting = st.setting;
-  zero_started = st.zero.started;
-  zero_readings = st.zero.readings;
-  span_started = st.span.started;
-  span_readings = st.span.readings;
+  zero = chart_facts st.zero;
+  span = chart_facts st.span;
   waiting = take st.waiting st.pairs;
   calibration = st.calibration;
   edition = st.edition;

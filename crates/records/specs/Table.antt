@@ -12,26 +12,32 @@ use Rattle.calibration.specs.declared.pairs.Pair.{Pair}
 use Rattle.calibration.specs.Outcomes.{Fitted}
 use Rattle.calibration.specs.Outcomes.{Tested}
 use Rattle.records.specs.Record.{Record, kind, mark, minute, minute_limit, field_of, long_field_of, formed_of, ranged_of, length_of, coverage_of, z_of}
-use Rattle.records.specs.Kinds.{sets, day_of, response_of, line_of, Calibration}
+use Rattle.records.specs.Kinds.{Point, at_zero, at_span, point_of, sets, day_of, response_of, line_of, Calibration}
 use Rattle.records.specs.declared.state.Setting.{Setting}
 use Rattle.records.specs.declared.state.Waiting.{Waiting}
 
--- what the rows ask beside the record: is there one before it, the last minute, the setting, of each chart whether it
--- is
--- started and how many readings it has since its reset, the pairs that wait (oldest first), the function in force, and
--- the edition of the block in which the record stands. By this one all figures of a closing are rounded, y' too,
--- whichever the edition in which its pairs were taken (paper 02, C-13).
+-- what the rows ask of a chart: whether it is started, and how many readings it has since its reset
+pub record ChartFacts : Type 0 where
+  pub started : Bool
+  pub readings : ℕ
+
+-- What the rows ask beside the record: is there one before it, the last minute, the setting, the two charts, the pairs
+-- that wait (oldest first), the function in force, and the edition of the block in which the record stands. By this one
+-- all figures of a closing are rounded, y' too, whichever the edition in which its pairs were taken (paper 02, C-13).
 pub record Facts : Type 0 where
   pub begun : Bool
   pub minute : ℕ
   pub setting : Setting
-  pub zero_started : Bool
-  pub zero_readings : ℕ
-  pub span_started : Bool
-  pub span_readings : ℕ
+  pub zero : ChartFacts
+  pub span : ChartFacts
   pub waiting : List Waiting
   pub calibration : Calibration
   pub edition : ℕ
+
+-- those of one of the charts
+abbrev pub facts_at : Point → Facts → ChartFacts
+facts_at at_zero f = f.zero
+facts_at at_span f = f.span
 
 -- ---- 11, 12
 
@@ -52,8 +58,8 @@ chart_refusal_of started readings =
 
 unfoldable pub reading_refusal_of : Facts → Record → ℕ
 reading_refusal_of f r =
-    if eqb (mark r) 0 then chart_refusal_of f.zero_started f.zero_readings
-    else chart_refusal_of f.span_started f.span_readings
+    let k : ChartFacts = facts_at (point_of (mark r)) f in
+    chart_refusal_of k.started k.readings
 
 -- ---- 18, 16, 17
 

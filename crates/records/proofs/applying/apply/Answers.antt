@@ -1,5 +1,5 @@
 -- `applying::apply` meets its contract.
-use mathlib.Core.Path.{◌≡◌, ap, ◌∙◌}
+use mathlib.Core.Path.{◌≡◌, refl, ap, ◌∙◌}
 use native.Mathlib.Omega.{arith}
 use lib.ListN.{length, length-take}
 use Rattle.records.specs.Record.{Record, kind, minute, mark_limit}
@@ -11,7 +11,7 @@ use Rattle.records.specs.State.{facts_of}
 use Rattle.records.specs.StateParts.{with_reading, with_reset, with_calibration, with_annual, emptied, judged_of}
 use Rattle.records.proofs.SoundnessLaws.{setting_known}
 use Rattle.records.specs.declared.state.State.{State}
-use Rattle.records.proofs.ApplyLaws.{judged_total, judged_outside, applied_setting, applied_reading, applied_reset, applied_pair, applied_calibration, applied_annual, calibration_by, annual_by, applied_value, applied_drop}
+use Rattle.records.proofs.ApplyLaws.{judged_total, judged_outside, applied_setting, applied_reading, applied_reset, applied_pair, applied_calibration, applied_annual, calibration_by, annual_by, charts_alike, applied_value, applied_drop}
 use borrow.Author.Rules.{rules}
 use Rattle.records.proofs.applying.apply.Goals as goal
 use Rattle.records.proofs.applying.apply.Goals.{Start, After-judged-s}
@@ -46,12 +46,12 @@ setting-requires c =
     (setting_ranged_lem (recordOf j) (passed j).ranged c.in-1.is)
 
 pub take_reading-requires : goal.take_reading-requires
-unfolding kind judged_of facts_of reading_refusal_of
+unfolding kind judged_of
 take_reading-requires c =
     let j = (goal.at.take_reading-requires c).After-judged-s in
     let A = passed j in
     rw (judged-is j)
-    (reading_ranged_lem (recordOf j) A.ranged c.in-2.is, reading_passed (facts_of (state_of j)) (recordOf j) A c.in-2.is, c.requires.0.zero, c.requires.0.span)
+    (reading_ranged_lem (recordOf j) A.ranged c.in-2.is, charts_alike (state_of j) _ (recordOf j) refl refl (reading_passed (facts_of (state_of j)) (recordOf j) A c.in-2.is), c.requires.0.zero, c.requires.0.span)
 
 pub waiting-requires : goal.waiting-requires
 unfolding kind
