@@ -1,2 +1,4 @@
+pub mod LineLaws
+pub mod OutputLaws
 pub mod Behind
 pub mod TellingLaws

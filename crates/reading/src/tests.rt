@@ -35,6 +35,8 @@ impl Write for Full {
 
 const SHORT: &[u8] = b"0 refused 1 -\nalarms 000000 usable no\n";
 
+const REFUSED: &[u8] = b"0 refused 2 -\nalarms 000000 usable no\n";
+
 #[test]
 fn tells_of_memory(rt: HostRuntime) -> std::result::Result<(), Fail> {
     let mut input: &[u8] = &[0; 511];
@@ -50,6 +52,27 @@ fn tells_of_what_came_before_a_failed_read(rt: HostRuntime) -> std::result::Resu
     let told = run(&mut Failing { left: 511 }, &mut out);
     assert!(rt; matches!(told, Err(RunError::Input(_))));
     assert_eq!(rt; out.as_slice(), SHORT);
+    Ok(())
+}
+
+// The first block is refused: it is told of at once, and no read follows, which would fail.
+#[test]
+fn reads_no_further_than_a_refused_block(rt: HostRuntime) -> std::result::Result<(), Fail> {
+    let mut out = Vec::new(rt.alloc());
+    let told = run(&mut Failing { left: 512 }, &mut out);
+    assert!(rt; matches!(told, Ok(0)));
+    assert_eq!(rt; out.as_slice(), REFUSED);
+    Ok(())
+}
+
+// Of 1,300 bytes that came together 788 stand behind the refused block.
+#[test]
+fn counts_what_stands_behind_a_refused_block(rt: HostRuntime) -> std::result::Result<(), Fail> {
+    let mut input: &[u8] = &[0; 1300];
+    let mut out = Vec::new(rt.alloc());
+    let unread = run(&mut input, &mut out)?;
+    assert_eq!(rt; unread, 788);
+    assert_eq!(rt; out.as_slice(), REFUSED);
     Ok(())
 }
 

@@ -2,7 +2,7 @@ use Rattle.std.proofs.Common.{arith, ap, sym, refl, ◌∙◌, ℕ, Some, None}
 use Rattle.std.proofs.Output.{has_written_of_eq}
 use Rattle.refusals.specs.Rows.{number_of}
 use Rattle.reading.specs.Lines.{dash, stopped_line, line_text}
-use Rattle.reading.specs.LineLaws.{decimal_text, taken_text, stopped_text, report_text}
+use Rattle.reading.proofs.LineLaws.{decimal_text, taken_text, stopped_text, report_text}
 use Rattle.reading.proofs.lines.LineDisplay.fmt.Goals as goal
 
 pub returns-in-Taken-clause-writes : goal.returns-in-Taken-clause-writes

@@ -3,7 +3,7 @@ use Rattle.std.specs.Prelude.{◌≡◌, refl, Bool, true, false, not, ◌&&◌,
 use Rattle.std.specs.Simd.{first_chunks}
 use Rattle.std.specs.Result.{is_ok}
 use Rattle.std.specs.declared.option.Option.{Option}
-use Rattle.std.proofs.lemmas.Bool.{false≢true}
+use Rattle.std.proofs.lemmas.Bool.{and_parts, false≢true}
 use Rattle.std.proofs.Math.Path.{sym, ap}
 use Rattle.std.proofs.Common.{subst, ◌∙◌, zero-add, suc-add, length-take, length-drop, get_or-take, take-append-drop}
 use mathlib.Core.List.{List, [], ◌∷◌, ◌++◌, append-nil, append_assoc}
@@ -25,11 +25,12 @@ use Rattle.file.specs.Taking.{Took, take_blocks, run_refusal, taking}
 use Rattle.file.specs.Calls.{machine}
 use Rattle.file.specs.Answered.{PlaceOfTwelve, place_number, place_of, row_of, take_of}
 use Rattle.file.specs.Statement.{report_of}
-use Rattle.file.proofs.RunsOfBlocks.{Ready, initial_ready, added, taking_few, taking_all, taking_ready, taking_next, taking_on, taking_stop}
+use Rattle.file.proofs.RunsOfBlocks.{Ready, initial_ready, added, taking_few, taking_all, taking_ready, taking_refused, taking_next, taking_on, taking_stop}
 use Rattle.file.specs.declared.Refused.{Refused}
 use Rattle.reading.specs.Lines.{taken_lines, refused_line, stopped_line, report_line}
-use Rattle.reading.specs.LineLaws.{chunks_front, lines_length, lines_of_blocks, lines_of_chunks, refused_length, stopped_none, stopped_some}
-use Rattle.reading.specs.Output.{file_analyser, whole_of, took_of, end_line, lines_of, output_of, goes_on, pieces_from}
+use Rattle.reading.specs.Telling.{lines_of_blocks, stop_text}
+use Rattle.reading.proofs.LineLaws.{chunks_front, lines_length, lines_of_chunks, refused_length, stopped_none, stopped_some}
+use Rattle.reading.specs.Output.{file_analyser, whole_of, took_of, past_of, end_line, lines_of, output_of, goes_on, pieces_from}
 
 -- ---- the first block's analyser number
 
@@ -77,11 +78,6 @@ end_length t size =
     if_all (λ (l : List ℕ). length l ≤ 80) (not (eqb t.refusal 0)) _ _ (λ _. refused_length t.kept.next t.refusal t.place)
     λ _. if_all (λ (l : List ℕ). length l ≤ 80) (not (eqb (size % 512) 0)) _ _ (λ _. refused_length t.kept.next 1 255) λ _. omega arith
 
--- the code's answer to what ends the reading, as a line
-abbrev pub stop_text : ℕ → Result (Unit {0}) Refused → List ℕ
-stop_text number (Ok u) = []
-stop_text number (Err r) = stopped_line number (number_of r.row) r.place
-
 stopped_refused : (number row : ℕ) (place : Option ℕ) → IfSome place (λ p. p < 12) → stopped_line number row place ≡ refused_line number row (place_number place)
 stopped_refused number row None h = sym (stopped_none number row 255 refl)
 stopped_refused number row (Some p) h = sym (stopped_some number row p (λ e. omega (arith, h)))
@@ -108,6 +104,26 @@ end_added : (n : ℕ) (t : Took State) (size : ℕ) → end_line (added machine 
 unfolding end_line
 end_added n t size = refl
 
+-- ---- what stands behind a refused block
+
+pub past_none : (t : Took State) (size : ℕ) → t.refusal ≡ 0 → past_of t size ≡ 0
+unfolding past_of
+past_none t size e = rw (eq-eqb t.refusal 0 e)
+
+pub past_most : (t : Took State) (size : ℕ) → past_of t size ≤ size
+unfolding past_of
+past_most t size = if_all (λ (n : ℕ). n ≤ size) (eqb t.refusal 0) 0 (size - 512 * (t.blocks + 1)) (λ e. omega arith) (λ e. omega arith)
+
+-- with n blocks more in front
+past_added : (n : ℕ) (t : Took State) (size : ℕ) → past_of (added machine n t) (512 * n + size) ≡ past_of t size
+unfolding past_of
+past_added n t size = ap (λ (m : ℕ). if eqb t.refusal 0 then 0 else m) (omega arith)
+
+-- with some bytes more behind
+past_behind : (t : Took State) (size more : ℕ) → (t.refusal ≡ 0 → ⊥) → 512 * (t.blocks + 1) ≤ size → past_of t (size + more) ≡ more + past_of t size
+unfolding past_of
+past_behind t size more n h = rw (ne_eqb t.refusal 0 n) (omega arith)
+
 -- ---- reading goes on
 
 module _ (st : State) (bytes : List ℕ) where
@@ -118,6 +134,10 @@ module _ (st : State) (bytes : List ℕ) where
   goes_not : ((took_of st bytes).refusal ≡ 0 → ⊥) → goes_on st bytes ≡ false
   unfolding goes_on
   goes_not n = rw (ne_eqb (took_of st bytes).refusal 0 n)
+
+  pub goes_refusal : goes_on st bytes ≡ true → (took_of st bytes).refusal ≡ 0
+  unfolding goes_on
+  goes_refusal o = eqb-true (took_of st bytes).refusal 0 (and_parts (eqb (took_of st bytes).refusal 0) (eqb (length bytes % 512) 0) o).0
 
 either : (b : Bool) (l : List ℕ) → (if b then l else l) ≡ l
 either true l = refl
@@ -209,6 +229,10 @@ Pieces (piece ∷ next ∷ pieces) = (512 ≤ length piece) × (length piece % 5
 abbrev pub printed : State → List ℕ → List ℕ
 printed st bytes = lines_of st bytes ++ report_line (report_of (took_of st bytes).kept)
 
+-- how many of them need not be read
+abbrev pub unread : State → List ℕ → ℕ
+unread st bytes = past_of (took_of st bytes) (length bytes)
+
 -- a piece of whole blocks, and what comes after it
 module _ (st : State) (piece rest : List ℕ) (R : Ready st) (h : length piece % 512 ≡ 0) where
   whole_piece : whole_of piece ≡ piece
@@ -255,7 +279,7 @@ module _ (st : State) (piece rest : List ℕ) (R : Ready st) (h : length piece %
   took_stop n = ap (taking machine st) whole_joined ∙ taking_stop st piece (whole_of rest) R h whole_rest (λ e. n (refusal_piece ∙ e)) ∙ sym took_piece
 
   -- the number that the rest begins with
-  after_next : (took_of st piece).refusal ≡ 0 → after.next ≡ st.next + length piece / 512
+  pub after_next : (took_of st piece).refusal ≡ 0 → after.next ≡ st.next + length piece / 512
   after_next e =
       ap (λ (t : Took State). t.kept.next) took_piece ∙ taking_next st piece
       ∙ ap (λ (n : ℕ). st.next + n) (taking_all machine st piece (sym refusal_piece ∙ e))
@@ -298,6 +322,33 @@ module _ (st : State) (piece rest : List ℕ) (R : Ready st) (h : length piece %
   printed_stop n =
       ap (λ (t : Took State). lines_of st (piece ++ rest) ++ report_line (report_of t.kept)) (took_stop n)
       ∙ ap (λ (l : List ℕ). l ++ report_line (report_of after)) (lines_stop n)
+
+  unread_on : (took_of st piece).refusal ≡ 0 → unread st (piece ++ rest) ≡ unread after rest
+  unread_on e =
+      let n : ℕ = length piece / 512 in
+      let l : length (piece ++ rest) ≡ 512 * n + length rest = omega (arith, length-append piece rest) in
+      ap (λ (t : Took State). past_of t (length (piece ++ rest))) (took_on e) ∙ ap (past_of (added machine n (took_of after rest))) l
+      ∙ past_added n (took_of after rest) (length rest)
+
+  unread_stop : ((took_of st piece).refusal ≡ 0 → ⊥) → unread st (piece ++ rest) ≡ length rest + unread st piece
+  unread_stop n =
+      let t : Took State = took_of st piece in
+      let m = taking_refused st piece R.ready h (λ e. n (refusal_piece ∙ e)) in
+      let k = ap (λ (x : Took State). x.blocks) took_piece in
+      ap (λ (x : Took State). past_of x (length (piece ++ rest))) (took_stop n) ∙ ap (past_of t) (length-append piece rest)
+      ∙ past_behind t (length piece) (length rest) n (omega (arith, m, k))
+
+  -- the rest is unread where a block of the piece was refused
+  pub unread_next : unread st (piece ++ rest) ≡ (if goes_on st piece then unread after rest else (length rest + unread st piece))
+  unread_next = go (eqb (took_of st piece).refusal 0) refl
+    where
+      go : (b : Bool) → eqb (took_of st piece).refusal 0 ≡ b → unread st (piece ++ rest) ≡ (if goes_on st piece then unread after rest else (length rest + unread st piece))
+      go true f =
+          let e = eqb-true (took_of st piece).refusal 0 f in
+          unread_on e ∙ sym (if_yes (goes_on st piece) (unread after rest) (length rest + unread st piece) (goes_on_lem st piece e h))
+      go false f =
+          let n = eqb-false (took_of st piece).refusal 0 f in
+          unread_stop n ∙ sym (if_no (goes_on st piece) (unread after rest) (length rest + unread st piece) (goes_not st piece n))
 
   -- the piece, and then the rest where reading goes on
   pub piece_next : (more : List ℕ) → more ≡ printed after rest → lines_of st piece ++ (if goes_on st piece then more else report_line (report_of after)) ≡ printed st (piece ++ rest)

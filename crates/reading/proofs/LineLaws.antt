@@ -10,6 +10,7 @@ use native.Mathlib.Omega.{arith}
 use Rattle.charts.specs.Tests.{if_all}
 use Rattle.records.specs.Bytes.{byte_at}
 use Rattle.file.specs.declared.Report.{Report}
+use Rattle.reading.specs.Telling.{lines_of_blocks}
 use Rattle.reading.specs.Lines.{alarms_word, usable, yes, no, dash, newline, decimal_from, decimal_of, place_text, place_or_dash, yes_or_no_of, flag, flags_text, taken_line, refused_line, stopped_line, report_line, taken_lines}
 
 -- ---- numbers
@@ -98,11 +99,6 @@ report_text r a b c d e f answer ea eb ec ed ee ef es =
     go false = refl
 
 -- ---- the lines of the blocks taken, one after another
-
--- with the blocks in a list
-abbrev pub lines_of_blocks : ℕ → List (List ℕ) → List ℕ
-lines_of_blocks first [] = []
-lines_of_blocks first (block ∷ blocks) = taken_line first (byte_at block 9) ++ lines_of_blocks (first + 1) blocks
 
 pub lines_of_chunks : (n first : ℕ) (bytes : List ℕ) → lines_of_blocks first (first_chunks 512 n bytes) ≡ taken_lines n first bytes
 unfolding taken_lines
