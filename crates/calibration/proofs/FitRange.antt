@@ -1,5 +1,5 @@
 -- A fit that is not refused gives a function in range.
-use Rattle.std.specs.Prelude.{◌≡◌, refl, Bool, true, false, not, List, ℕ, ◌≤◌, ◌<◌, T, ℤ, pos, length}
+use Rattle.std.specs.Prelude.{◌≡◌, not, List, ℕ, ◌≤◌, ◌<◌, ℤ, pos, length}
 use Rattle.std.proofs.Common.{arith}
 use Rattle.std.proofs.Math.Facts.{T_not-not}
 use Rattle.std.specs.Int.Signed.{le_z}

@@ -1,6 +1,5 @@
 -- Tests in definitions, and what they answer. A definition tests by a Bool; a statement asks a question; `Answers`
--- joins
--- the two.
+-- joins the two.
 use Rattle.std.specs.Prelude.{◌≡◌, refl, Bool, true, false, not, ◌&&◌, ℕ, ◌≤◌, ◌<◌, T, leb, ltb, ℤ, ◌≤ℤ◌, ◌<ℤ◌, if◌then◌else◌}
 use Rattle.std.proofs.Common.{sym, subst, ap, T_not, leb→le, le→leb, ltb→lt, lt→ltb}
 pub use Rattle.std.proofs.lemmas.Bool.{and_parts as and_both}
@@ -8,8 +7,7 @@ use Rattle.std.proofs.Math.Dec.{not_T}
 use Rattle.std.specs.Int.Signed.{le_z, lt_z, le_z_yes, lt_z_yes}
 
 -- a branch, from what is known of its test; `rw` by the test itself would rewrite inside a struct of which the test is
--- a
--- field
+-- a field
 pub if_yes : {A : Type 0} (b : Bool) (x y : A) → b ≡ true → (if b then x else y) ≡ x
 if_yes b x y h = ap (λ (u : Bool). if u then x else y) h
 

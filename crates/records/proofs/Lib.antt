@@ -7,6 +7,7 @@ pub mod PairLaws
 pub mod StateLaws
 pub mod SummaryLaws
 pub mod WeekCount
+pub mod EffectsLaws
 pub mod StepsLaws
 pub mod TableLaws
 pub mod SoundnessLaws

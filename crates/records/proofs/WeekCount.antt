@@ -2,7 +2,7 @@
 -- minutes never fall, as those of accepted records never do, both readings say the same.
 use Rattle.std.specs.Prelude.{◌≡◌, refl, Bool, true, false, not, ◌&&◌, ◌||◌, List, [], ◌∷◌, ◌++◌, ℕ, zero, suc, ◌<◌, ◌≤◌, eqb, ltb, T, if◌then◌else◌}
 use Rattle.std.proofs.Common.{sym, ap, ◌∙◌, arith, add-one, ltb→lt, nltb→le, eqb→eq}
-use Rattle.records.specs.Kinds.{starts_period, counts, no_values, one_more, exceeds_of, raises_demand_of, clears_demands, fails}
+use Rattle.records.specs.Kinds.{calibrates, is_passed, fails, starts_period, counts, no_values, one_more, exceeds_of, raises_demand_of}
 use Rattle.records.specs.Record.{minute}
 use Rattle.records.specs.History.{Entry, History, own_week, last_week, outside_when, tally_in, turns, judged_on, weeks_over, week_demands, value_of_week, demands_in}
 use Rattle.records.specs.Summary.{Taken}
@@ -134,7 +134,7 @@ taken_demands h r t = same_demands h r (ordered h t)
 -- of how many records of the period p holds; p may look at the records before
 abbrev pub count_in : (History → Entry → Bool) → History → ℕ
 count_in p [] = 0
-count_in p (r ∷ h) = if starts_period r.bytes then 0 else (if p h r then suc (count_in p h) else count_in p h)
+count_in p (r ∷ h) = if is_passed r.bytes then 0 else (if p h r then suc (count_in p h) else count_in p h)
 
 abbrev pub of_week : ℕ → History → Entry → Bool
 of_week w h r = value_of_week w r
@@ -169,7 +169,7 @@ called_at b m = if b then m ∷ [] else []
 unfoldable pub demands_by_calendar : History → List ℕ
 demands_by_calendar [] = []
 demands_by_calendar (r ∷ h) =
-    if clears_demands r.bytes then []
+    if calibrates r.bytes then []
     else called_at (fails r.bytes) (minute r.bytes) ++ called_at (demands_counted h r) (minute r.bytes) ++ demands_by_calendar h
 
 pub same_list : (h : History) → Ordered h → demands_in h ≡ demands_by_calendar h

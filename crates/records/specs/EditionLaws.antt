@@ -19,9 +19,8 @@ abbrev pub without_editions : History → List Record
 without_editions h = map (λ (r : Entry). r.bytes) h
 
 -- what two histories have in common: the setting and the last minute, the differences and the alarms at each chart,
--- the
--- pairs that wait, the function in force and how many values of each week count; and of a next record, by which row it
--- is refused and whether it is a value outside
+-- the pairs that wait, the function in force and how many values of each week count; and of a next record, by which
+-- row it is refused and whether it is a value outside
 pub record Alike (h k : History) : Type 0 where
   pub setting : setting_in h ≡ setting_in k
   pub minute : last_minute h ≡ last_minute k

@@ -1,7 +1,6 @@
 -- What the accepted records say, and nothing else: paper 01, 'Charts', 'Calibration', 'Weeks and calls (6.4.4)' and
 -- 'Usable', paper 02, C-11 to C-13, and the mission's statement 3. A history is the list of accepted records, each
--- with
--- the edition of its block, newest first, so that "since the last" is plain recursion.
+-- with the edition of its block, newest first, so that "since the last" is plain recursion.
 use Rattle.std.specs.Prelude.{◌≡◌, Bool, true, false, ◌&&◌, List, [], ◌∷◌, ◌++◌, map, ℕ, suc, ◌-◌, ◌≤◌, ltb, eqb, ℤ, length, if◌then◌else◌, None, Some}
 use Rattle.std.proofs.Math.Option.{Option, none, some, get_or}
 use Rattle.charts.specs.Runs.{Alarm, Stands}
@@ -78,8 +77,7 @@ abbrev pub value_of_week : ℕ → Entry → Bool
 value_of_week w r = counts r.bytes && eqb (own_week r) w
 
 -- It was outside when it was applied. It is judged by its own block's edition, against the top in force; a week's
--- tally
--- may have values of both editions (paper 02, C-13).
+-- tally may have values of both editions (paper 02, C-13).
 abbrev pub outside_when : History → Entry → Bool
 outside_when h r = outside_by r.edition (function_in h) (setting_in h) r.bytes
 

@@ -142,7 +142,6 @@ abbrev pub exceeds_of : ℕ → Tally → Bool
 exceeds_of percent t = ltb (percent * t.total) (100 * t.outside)
 
 -- A judged week raises a call: over 40 percent, or over 5 percent as the sixth such week of its period. Paper 02,
--- C-11,
--- has a week not judged where none of its values counts: with no values no percentage is exceeded.
+-- C-11, has a week not judged where none of its values counts: with no values no percentage is exceeded.
 unfoldable pub raises_demand_of : Tally → ℕ → Bool
 raises_demand_of t over = exceeds_of 40 t || exceeds_of 5 t && eqb over 5

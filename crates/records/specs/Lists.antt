@@ -18,7 +18,8 @@ module _ {A : Type 0} where
   any p (r ∷ h) = if p r then true else any p h
 
   pub those_since : (p q : A → Bool) (r : A) (h : List A)
-      → those p (since q (r ∷ h)) ≡ (if q r then [] else (if p r then r ∷ those p (since q h) else those p (since q h)))
+      → those p (since q (r ∷ h))
+      ≡ (if q r then [] else (if p r then r ∷ those p (since q h) else those p (since q h)))
   those_since p q r h =
       elim (q r) as
       (λ b. those p (if b then [] else r ∷ since q h)

@@ -1,6 +1,5 @@
 -- Paper 01, 'Records', and paper 02, C-11: a record is forty bytes. What stands where, which bytes have to be zero,
--- and
--- which ranges the fields have.
+-- and which ranges the fields have.
 use Rattle.std.specs.Prelude.{Bool, true, ◌&&◌, ◌||◌, List, ℕ, ◌+◌, ◌-◌, ◌*◌, leb, ltb, eqb, ℤ, pos, negsuc, neg_ℤ, nat_abs, ◌-ℤ◌, drop, if◌then◌else◌}
 use Rattle.calibration.specs.Pairs.{between_of, pair_ranged_of, conditions_ranged_of, requirements_ranged_of, z_ranged_of}
 use Rattle.calibration.specs.declared.conditions.Conditions.{Conditions}

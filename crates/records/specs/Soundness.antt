@@ -1,7 +1,6 @@
 -- The range in which a state's arithmetic fits its fields: the code's own, with no sentence of paper 01. Every state
 -- that calls leave is in it, and others may be. The edition may be any number, since none overflows anything (paper
--- 02,
--- C-12). `most` bounds what is counted record by record: a state that has taken n blocks is sound for 12·n.
+-- 02, C-12). `most` bounds what is counted record by record: a state that has taken n blocks is sound for 12·n.
 use Rattle.std.specs.Prelude.{Bool, true, false, ◌&&◌, List, [], ◌∷◌, ℕ, ◌≤◌, leb, take, None, Some}
 use Rattle.charts.specs.Tests.{Answers, answers_le, answers_and, answers_as}
 use Rattle.charts.specs.ChartSoundness.{ChartSound, chart_sound_of, chart_sound_answers}

@@ -1,7 +1,6 @@
 -- Paper 01, 'Where input is stopped', rows 10 to 25, with the times, coverage, days and span of 'Calibration (6.4,
--- 6.5)',
--- and paper 02, C-12 and C-13. The rows ask certain facts of the records before, and the edition of the record's own
--- block; they are the same whether read from a history or from a state.
+-- 6.5)', and paper 02, C-12 and C-13. The rows ask certain facts of the records before, and the edition of the
+-- record's own block; they are the same whether read from a history or from a state.
 use Rattle.std.specs.Prelude.{Bool, true, false, not, ◌&&◌, ◌||◌, List, [], ◌∷◌, map, ℕ, suc, ◌+◌, ◌-◌, ◌*◌, leb, ltb, eqb, ℤ, pos, length, if◌then◌else◌, None, Some}
 use Rattle.std.proofs.Math.Option.{Option, none, some}
 use Rattle.std.specs.Int.Signed.{le_z}
@@ -22,8 +21,9 @@ pub record ChartFacts : Type 0 where
   pub readings : ℕ
 
 -- What the rows ask beside the record: is there one before it, the last minute, the setting, the two charts, the pairs
--- that wait (oldest first), the function in force, and the edition of the block in which the record stands. By this one
--- all figures of a closing are rounded, y' too, whichever the edition in which its pairs were taken (paper 02, C-13).
+-- that wait (oldest first), the function in force, and the edition of the block in which the record stands. By this
+-- one all figures of a closing are rounded, y' too, whichever the edition in which its pairs were taken (paper 02,
+-- C-13).
 pub record Facts : Type 0 where
   pub begun : Bool
   pub minute : ℕ

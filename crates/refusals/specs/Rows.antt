@@ -1,14 +1,12 @@
 -- Paper 01, 'Where input is stopped', and paper 02, C-13, row 26: the numbers of the rows, and rows read downwards. 7
--- is
--- no row of the table: it refuses a state whose numbers are so large that the arithmetic would not fit
+-- is no row of the table: it refuses a state whose numbers are so large that the arithmetic would not fit
 -- (docs/DECISIONS.md).
 use Rattle.std.specs.Prelude.{ℕ, zero, suc, Bool, true, false, Result, Ok, Err}
 use Rattle.refusals.specs.declared.Refusal.{Refusal}
 use Rattle.refusals.specs.declared.Refusal.TheVariants.{Length, Records, Check, Header, Analyser, Sequence, Edition, State, Layout, Place, Minute, Range, Unstarted, Full, Times, Coverage, Waiting, Function, Count, Days, Divisor, Slope, Beyond, Stored}
 
 -- `Length`: a run or a target of another length than it has to be. `Records`: bytes that are no whole number of
--- records
--- or too many, or a closing of a kind that closes nothing.
+-- records or too many, or a closing of a kind that closes nothing.
 abbrev pub number_of : Refusal → ℕ
 number_of Length = 1
 number_of Check = 2

@@ -5,7 +5,6 @@ use lib.ListN.{length, length-take}
 use Rattle.records.specs.Record.{Record, kind, minute, mark_limit}
 use Rattle.records.specs.RecordLaws.{FormedFields, formed_fields, setting_ranged_lem, reading_ranged_lem, waiting_ranged_lem, value_ranged_lem}
 use Rattle.records.specs.Kinds.{sets}
-use Rattle.records.specs.Table.{reading_refusal_of}
 use Rattle.records.proofs.TableLaws.{Accepted, accepted, reading_passed, pair_passed, PairPasses, pair_passes}
 use Rattle.records.specs.State.{facts_of}
 use Rattle.records.specs.StateParts.{with_reading, with_reset, with_calibration, with_annual, emptied, judged_of}
