@@ -11,7 +11,7 @@ sys.dont_write_bytecode = True
 from model import (BLOCK, CALIBRATION, DROP, PAIR, READING, RECORD, RECORDS_AT, RESET, SETTING,
                    VALUE, block_bytes, record_bytes, sealed)
 
-PIECE = 128                     # blocks that the reader reads at a time
+PIECE = 128                     # blocks that the reader reads at a time, at most
 E1 = record_bytes(SETTING, 0, 0, 66_470, 700, 44, 44, 1_100, 0)
 E2 = record_bytes(SETTING, 0, 0, 10_000, 500, 44, 44, 1_100, 0)
 

@@ -32,9 +32,10 @@ fn main(rt: HostRuntime) -> anyhow::Result<ExitCode> {
         return Ok(ExitCode::from(2));
     }
     if rt.stdin().is_terminal() {
-        eprintln!(rt;
+        // Only courtesy: it is read on where this cannot be said.
+        let _ = eprintln!(rt;
             "reader: waits for blocks of 512 bytes on standard input; with an argument it says more"
-        )?;
+        );
     }
     let shows = rt.stderr().is_terminal() && !rt.stdout().is_terminal();
     let mut input = Watched::new(rt.stdin(), &rt, shows);

@@ -114,6 +114,11 @@ pub past_most : (t : Took State) (size : ℕ) → past_of t size ≤ size
 unfolding past_of
 past_most t size = if_all (λ (n : ℕ). n ≤ size) (eqb t.refusal 0) 0 (size - 512 * (t.blocks + 1)) (λ e. omega arith) (λ e. omega arith)
 
+-- of less than a block
+pub past_short : (t : Took State) (size : ℕ) → size < 512 → past_of t size ≡ 0
+unfolding past_of
+past_short t size h = if_all (λ (n : ℕ). n ≡ 0) (eqb t.refusal 0) 0 (size - 512 * (t.blocks + 1)) (λ e. omega arith) (λ e. omega (arith, h))
+
 -- with n blocks more in front
 past_added : (n : ℕ) (t : Took State) (size : ℕ) → past_of (added machine n t) (512 * n + size) ≡ past_of t size
 unfolding past_of

@@ -3,28 +3,33 @@ use crate::{RunError, run};
 use std::io::{Error, ErrorKind, Read, Result, Write};
 use std::test::Fail;
 
-// Gives `left` bytes one at a time, and then fails.
+// Gives `left` bytes, at most `most` at a time, and then fails.
 #[derive(Drop)]
 struct Failing {
     left: usize,
+    most: usize,
 }
 
 impl Read for Failing {
     fn read(&mut self, buf: &mut [u8]) -> Result<usize> {
-        if self.left == 0 || buf.is_empty() {
+        if self.left == 0 {
             return Err(Error::from(ErrorKind::Other));
         }
-        self.left -= 1;
-        Ok(1)
+        let count = self.most.min(self.left).min(buf.len());
+        self.left -= count;
+        Ok(count)
     }
 }
 
-// Takes nothing.
+// Takes nothing, and counts how often it was asked.
 #[derive(Drop)]
-struct Full;
+struct Full {
+    writes: u32,
+}
 
 impl Write for Full {
     fn write(&mut self, _buf: &[u8]) -> Result<usize> {
+        self.writes = self.writes.saturating_add(1);
         Err(Error::from(ErrorKind::StorageFull))
     }
 
@@ -49,18 +54,21 @@ fn tells_of_memory(rt: HostRuntime) -> std::result::Result<(), Fail> {
 #[test]
 fn tells_of_what_came_before_a_failed_read(rt: HostRuntime) -> std::result::Result<(), Fail> {
     let mut out = Vec::new(rt.alloc());
-    let told = run(&mut Failing { left: 511 }, &mut out);
+    let mut input = Failing { left: 511, most: 1 };
+    let told = run(&mut input, &mut out);
     assert!(rt; matches!(told, Err(RunError::Input(_))));
     assert_eq!(rt; out.as_slice(), SHORT);
     Ok(())
 }
 
-// The first block is refused: it is told of at once, and no read follows, which would fail.
+// The first block is refused: it is told of at once, and no read follows.
 #[test]
 fn reads_no_further_than_a_refused_block(rt: HostRuntime) -> std::result::Result<(), Fail> {
+    let mut input = Failing { left: 600, most: 1 };
     let mut out = Vec::new(rt.alloc());
-    let told = run(&mut Failing { left: 512 }, &mut out);
+    let told = run(&mut input, &mut out);
     assert!(rt; matches!(told, Ok(0)));
+    assert_eq!(rt; input.left, 88);
     assert_eq!(rt; out.as_slice(), REFUSED);
     Ok(())
 }
@@ -76,10 +84,29 @@ fn counts_what_stands_behind_a_refused_block(rt: HostRuntime) -> std::result::Re
     Ok(())
 }
 
+// The same where the read that brought the block brought bytes behind it.
 #[test]
-fn returns_a_failed_write(rt: HostRuntime) -> std::result::Result<(), Fail> {
-    let mut input: &[u8] = &[0; 511];
-    let told = run(&mut input, &mut Full);
+fn reads_no_further_where_more_had_come(rt: HostRuntime) -> std::result::Result<(), Fail> {
+    let mut input = Failing {
+        left: 1400,
+        most: 700,
+    };
+    let mut out = Vec::new(rt.alloc());
+    let told = run(&mut input, &mut out);
+    assert!(rt; matches!(told, Ok(188)));
+    assert_eq!(rt; input.left, 700);
+    assert_eq!(rt; out.as_slice(), REFUSED);
+    Ok(())
+}
+
+// A block's line is written before anything behind the block is read; and after a write that failed nothing is read or written.
+#[test]
+fn stops_at_a_failed_write(rt: HostRuntime) -> std::result::Result<(), Fail> {
+    let mut input = Failing { left: 600, most: 1 };
+    let mut out = Full { writes: 0 };
+    let told = run(&mut input, &mut out);
     assert!(rt; matches!(told, Err(RunError::Output(_))));
+    assert_eq!(rt; input.left, 88);
+    assert_eq!(rt; out.writes, 1);
     Ok(())
 }
