@@ -8,7 +8,7 @@ const MILLISECONDS: u128 = 500;
 // An input, and how much was read of it. `shown` is the time of the last line, or of the beginning; with none no line is shown, nor where the clock fails.
 #[derive(Drop)]
 pub struct Watched<'a, I, R> {
-    input: I,
+    pub source: I,
     rt: &'a R,
     bytes: u64,
     shown: Option<Instant>,
@@ -16,9 +16,9 @@ pub struct Watched<'a, I, R> {
 }
 
 impl<'a, I: Read, R: Clock + Eprint> Watched<'a, I, R> {
-    pub fn new(input: I, rt: &'a R, shows: bool) -> Watched<'a, I, R> {
+    pub fn new(source: I, rt: &'a R, shows: bool) -> Watched<'a, I, R> {
         Watched {
-            input,
+            source,
             rt,
             bytes: 0,
             shown: if shows { Instant::now(rt).ok() } else { None },
@@ -53,7 +53,7 @@ impl<'a, I: Read, R: Clock + Eprint> Watched<'a, I, R> {
 
 impl<I: Read, R: Clock + Eprint> Read for Watched<'_, I, R> {
     fn read(&mut self, buf: &mut [u8]) -> Result<usize> {
-        let count = self.input.read(buf)?;
+        let count = self.source.read(buf)?;
         self.bytes = self.bytes.saturating_add(count as u64);
         self.tell();
         Ok(count)
