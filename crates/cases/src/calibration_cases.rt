@@ -1,23 +1,10 @@
 // Rounding, sound charts, standard conditions, calibrated values, fits and annual tests, a line for each. A call that asks for ranges is made only where its
 // arguments are in them; elsewhere the line ends with `outside`.
-ghost use Rattle.std.specs.Prelude.{◌≡◌, ◌≤◌, length, true};
-ghost use Rattle.calibration.specs.Pairs.{AllRanged, RequirementsRanged};
-
 use crate::desk::{Desk, PAIRS};
 use crate::script_command::{Command, Number, Word};
 use calibration::{Actual, Basis, Conditions, Figures, Line, Pair, Requirements, Verdicts};
 use charts::Sum;
 use refusals::Refusal;
-
-// Whether there are at most thirty pairs, and they and the requirements are in range.
-fn ranged(pairs: &[Pair], q: Requirements) -> bool
-    ensures { result ≡ true → (length pairs.now ≤ 30) × AllRanged pairs.now × RequirementsRanged q }
-{
-    if 30 < pairs.len() || !calibration::all_ranged(pairs) {
-        return false;
-    }
-    calibration::requirements_ranged(q)
-}
 
 // ---- the calls, where their arguments are in range
 
@@ -67,30 +54,39 @@ fn try_value(edition: u8, reference: i32, l: Line, k: Conditions, x: i32) -> Opt
     Some([c.0.into(), 0, 0, 0, 0, 0])
 }
 
+// Like `try_annual`, and no shorter with it: two ranges and two calls.
 fn try_fit(pairs: &[Pair], b: Basis, z: i32) -> Option<Result<Figures, Refusal>> {
-    if !ranged(pairs, b.requirements) || !calibration::z_ranged(z) {
+    if 30 < pairs.len()
+        || !calibration::all_ranged(pairs)
+        || !calibration::requirements_ranged(b.requirements)
+        || !calibration::z_ranged(z)
+    {
         return None;
     }
     Some(calibration::fit(pairs, b, z))
 }
 
 fn try_annual(pairs: &[Pair], b: Basis, l: Line) -> Option<Result<Verdicts, Refusal>> {
-    if !ranged(pairs, b.requirements) || !calibration::line_ranged(l) {
+    if 30 < pairs.len()
+        || !calibration::all_ranged(pairs)
+        || !calibration::requirements_ranged(b.requirements)
+        || !calibration::line_ranged(l)
+    {
         return None;
     }
     Some(calibration::annual_test(pairs, b, l))
 }
 
 // Whether a chart with these readings, this last difference, and this value and count of P is sound.
-fn sound(readings: Number, last: Number, value: Number, count: Number) -> bool {
+fn sound(command: &Command) -> Option<[i128; 6]> {
     let mut c = charts::unstarted().reset();
-    c.readings = readings.unsigned;
-    c.last = last.small;
+    c.readings = command.a.unsigned;
+    c.last = command.b.small;
     c.rising = Sum {
-        value: value.long.cast_unsigned(),
-        count: count.unsigned,
+        value: command.c.long.cast_unsigned(),
+        count: command.d.unsigned,
     };
-    c.sound()
+    Some([c.sound().into(), 0, 0, 0, 0, 0])
 }
 
 fn conditions_of(t: Number, p: Number, h: Number, o: Number) -> Conditions {
@@ -127,65 +123,80 @@ fn refused(row: Refusal) -> Option<[i128; 6]> {
 impl Desk {
     // Commands that write a line of figures. Whether the command is one of them.
     pub fn obey_figures(&mut self, command: &Command) -> bool {
-        let [a, b, c, d, e, f, g, h] = command.numbers;
-        let edition = self.edition;
-        let (head, tail, figures) = match command.word {
-            Word::Near => ("near #/#", " #\n", try_near(edition, a.long, b.long)),
-            Word::Unsigned => (
-                "unsigned #/#",
-                " #\n",
-                try_unsigned(edition, a.size, b.size),
-            ),
-            Word::Standard => (
-                "standard # t # p # h # o # reference #",
-                " is #\n",
-                try_standard(edition, f.small, conditions_of(b, c, d, e), a.small),
-            ),
-            Word::Value => (
-                "value # B # A # t # p # h # o # reference #",
-                " is #\n",
-                try_value(
-                    edition,
-                    h.small,
-                    line_of(b, c),
-                    conditions_of(d, e, f, g),
-                    a.small,
-                ),
-            ),
-            Word::Fit | Word::Lent => (
-                " n # E # sigma # reference # Z #",
-                " refusal # passed # B # A # top # N #\n",
-                self.fit(command),
-            ),
-            Word::Annual => (
-                " n # sigma # reference # B # A #",
-                " refusal # variability # function #\n",
-                self.annual(command),
-            ),
-            Word::Sound => {
-                self.text("sound ");
-                ("", " #\n", Some([sound(a, b, c, d).into(), 0, 0, 0, 0, 0]))
-            }
-            _ => return false,
+        let Some((head, tail, figures)) = self.figures(command) else {
+            return false;
         };
         self.text(command.text);
-        self.print(head, command.shown());
+        self.print(head, &command.written);
         match figures {
             Some(figures) => self.print(tail, &figures),
-            None => self.text(" outside\n"),
+            None => self.text(b" outside\n"),
         }
         true
     }
 
+    // What stands in the line behind the name, with the numbers of the command, and what follows with the figures: none where
+    // the call is not made.
+    fn figures(
+        &self,
+        command: &Command,
+    ) -> Option<(&'static [u8], &'static [u8], Option<[i128; 6]>)> {
+        let line: (&'static [u8], &'static [u8], Option<[i128; 6]>) = match command.word {
+            Word::Near => (
+                b"near #/#",
+                b" #\n",
+                try_near(self.edition, command.a.long, command.b.long),
+            ),
+            Word::Unsigned => (
+                b"unsigned #/#",
+                b" #\n",
+                try_unsigned(self.edition, command.a.size, command.b.size),
+            ),
+            Word::Sound => (b"", b" #\n", sound(command)),
+            Word::Standard => (
+                b"standard # t # p # h # o # reference #",
+                b" is #\n",
+                try_standard(
+                    self.edition,
+                    command.f.small,
+                    conditions_of(command.b, command.c, command.d, command.e),
+                    command.a.small,
+                ),
+            ),
+            Word::Value => (
+                b"value # B # A # t # p # h # o # reference #",
+                b" is #\n",
+                try_value(
+                    self.edition,
+                    command.h.small,
+                    line_of(command.b, command.c),
+                    conditions_of(command.d, command.e, command.f, command.g),
+                    command.a.small,
+                ),
+            ),
+            Word::Fit | Word::Lent => (
+                b" n # E # sigma # reference # Z #",
+                b" refusal # passed # B # A # top # N #\n",
+                self.fit(command),
+            ),
+            Word::Annual => (
+                b"_ n # sigma # reference # B # A #",
+                b" refusal # variability # function #\n",
+                self.annual(command),
+            ),
+            _ => return None,
+        };
+        Some(line)
+    }
+
     // The row that refuses a fit, 0 for none, and its figures, each 0 where it is refused.
     fn fit(&self, command: &Command) -> Option<[i128; 6]> {
-        let [n, limit, uncertainty, oxygen, z, ..] = command.numbers;
-        let b = basis(self.edition, limit, uncertainty, oxygen);
+        let b = basis(self.edition, command.b, command.c, command.d);
         let pairs = self.pairs.as_slice();
-        let pairs = &pairs[..n.size.min(pairs.len())];
+        let pairs = &pairs[..command.a.size.min(pairs.len())];
         let fit = match command.word {
-            Word::Lent => Some(calibration::fit_list(pairs, b, z.small)),
-            _ => try_fit(pairs, b, z.small),
+            Word::Lent => Some(calibration::fit_list(pairs, b, command.e.small)),
+            _ => try_fit(pairs, b, command.e.small),
         };
         match fit {
             Some(Ok(f)) => Some([
@@ -203,34 +214,25 @@ impl Desk {
 
     // The row that refuses an annual test, and its two verdicts likewise.
     fn annual(&self, command: &Command) -> Option<[i128; 6]> {
-        let [limit, n, uncertainty, oxygen, slope, intercept, ..] = command.numbers;
-        let b = basis(self.edition, limit, uncertainty, oxygen);
+        let b = basis(self.edition, command.a, command.c, command.d);
         let pairs = self.pairs.as_slice();
-        let pairs = &pairs[..n.size.min(pairs.len())];
-        match try_annual(pairs, b, line_of(slope, intercept)) {
+        let pairs = &pairs[..command.b.size.min(pairs.len())];
+        match try_annual(pairs, b, line_of(command.e, command.f)) {
             Some(Ok(v)) => Some([0, v.variability.into(), v.function.into(), 0, 0, 0]),
             Some(Err(row)) => refused(row),
             None => None,
         }
     }
 
-    // Commands on the pairs that are listed. Whether the command is one of them, and was obeyed.
-    pub fn obey_pairs(&mut self, command: &Command) -> bool {
-        let [a, b, c, d, e, f, g, h] = command.numbers;
-        match command.word {
-            Word::Conditions => {
-                self.first = conditions_of(a, b, c, d);
-                self.others = conditions_of(e, f, g, h);
-            }
-            Word::Pairs => self.list_pairs(command.list.as_slice()),
-            Word::Pair => return self.change_pair(a.size, b.small, c.small),
-            _ => return false,
-        }
-        true
+    // The conditions that pairs are listed with.
+    pub fn conditions(&mut self, command: &Command) {
+        self.first = conditions_of(command.a, command.b, command.c, command.d);
+        self.others = conditions_of(command.e, command.f, command.g, command.h);
     }
 
-    // Signals, each with its SRM value, in the place of what was listed; behind the last it comes again, up to the end.
-    fn list_pairs(&mut self, figures: &[i64]) {
+    // Signals, each with its SRM value, in the place of what was listed; behind the last it comes again, up to the end. Whether
+    // no value is missing.
+    pub fn list_pairs(&mut self, figures: &[i64]) -> bool {
         let mut pair = Pair {
             signal: 0,
             srm: Actual(0),
@@ -252,15 +254,16 @@ impl Desk {
         for _ in self.pairs.len()..PAIRS {
             let _ = self.pairs.try_push(pair);
         }
+        is_signal
     }
 
     // Another signal and SRM value for the nth pair.
-    fn change_pair(&mut self, n: usize, signal: i32, value: i32) -> bool {
-        let Some(pair) = self.pairs.get_mut(n.wrapping_sub(1)) else {
+    pub fn change_pair(&mut self, command: &Command) -> bool {
+        let Some(pair) = self.pairs.get_mut(command.a.size.wrapping_sub(1)) else {
             return false;
         };
-        pair.signal = signal;
-        pair.srm = Actual(value);
+        pair.signal = command.b.small;
+        pair.srm = Actual(command.c.small);
         true
     }
 }

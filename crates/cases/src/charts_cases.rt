@@ -16,43 +16,44 @@ fn applied(edition: u8, c: Chart, s: u16, d: i64) -> Chart {
 }
 
 impl Desk {
-    // Commands on a chart. Whether the command is one of them.
+    // Commands on a chart and on the pairs that are listed. Whether the command is one of them, and was obeyed.
     pub fn obey_charts(&mut self, command: &Command) -> bool {
-        let [a, b, ..] = command.numbers;
         match command.word {
             Word::Unstarted => self.chart = charts::unstarted(),
             Word::Reset => self.chart = self.chart.reset(),
             Word::Stop => self.chart.started = false,
             Word::Series => {
                 self.chart = charts::unstarted().reset();
-                self.read(command, a.short);
+                self.read(command, 1, command.a.short);
             }
-            Word::More => self.read(command, a.short),
-            Word::Chart => self.chart_line(command.text, a.short, self.chart),
-            Word::Fill => self.fill(command, a.unsigned, b.short),
-            _ => return false,
+            Word::More => self.read(command, 1, command.a.short),
+            Word::Chart => self.chart_line(command.text, command.a.short, self.chart),
+            Word::Fill => self.read(command, command.a.unsigned, command.b.short),
+            Word::Conditions => self.conditions(command),
+            Word::Pairs => return self.list_pairs(command.list.as_slice()),
+            Word::Pair => return self.change_pair(command),
+            Word::Sound => {
+                self.text(b"sound ");
+                return self.obey_figures(command);
+            }
+            _ => return self.obey_figures(command),
         }
         true
     }
 
-    // Applies the differences one after the other, with a line for each.
-    fn read(&mut self, command: &Command, s: u16) {
-        for d in command.list.as_slice() {
-            self.chart = applied(self.edition, self.chart, s, *d);
-            self.chart_line(command.text, s, self.chart);
-        }
-    }
-
-    // Applies the differences n times over, with no line.
-    fn fill(&mut self, command: &Command, n: u32, s: u16) {
-        for _ in 0..n {
+    // Applies the differences one after the other, a number of times over; with a line for each, but for `fill`.
+    fn read(&mut self, command: &Command, times: u32, s: u16) {
+        for _ in 0..times {
             for d in command.list.as_slice() {
                 self.chart = applied(self.edition, self.chart, s, *d);
+                if !matches!(command.word, Word::Fill) {
+                    self.chart_line(command.text, s, self.chart);
+                }
             }
         }
     }
 
-    pub fn chart_line(&mut self, name: &str, s: u16, c: Chart) {
+    pub fn chart_line(&mut self, name: &[u8], s: u16, c: Chart) {
         let a = c.alarms(s);
         let figures = [
             s.into(),
@@ -71,7 +72,7 @@ impl Desk {
         ];
         self.text(name);
         self.print(
-            " s # d # P # # M # # V # # off # on # alarms ###\n",
+            b" s # d # P # # M # # V # # off # on # alarms ###\n",
             &figures,
         );
     }

@@ -16,7 +16,6 @@ fn row_and_place(refused: Option<Refused>) -> [i128; 2] {
 impl Desk {
     // Commands on records that are listed and on the run. Whether the command is one of them, and was obeyed.
     pub fn obey_file(&mut self, command: &Command) -> bool {
-        let [a, b, c, d, e, ..] = command.numbers;
         match command.word {
             Word::Check => self.check(command.text),
             Word::List => self.list(),
@@ -24,35 +23,35 @@ impl Desk {
                 self.list.clear();
                 self.formed = 0;
             }
-            Word::Form => self.form(None, a.size, b.size),
+            Word::Form => self.form(None, command.a.size, command.b.size),
             Word::Make => {
                 let closing = Closing {
-                    kind: a.byte,
-                    minute: b.unsigned,
-                    z: c.small,
+                    kind: command.a.byte,
+                    minute: command.b.unsigned,
+                    z: command.c.small,
                 };
-                self.form(Some(closing), d.size, e.size);
+                self.form(Some(closing), command.d.size, command.e.size);
             }
-            Word::Take => return self.take(a.size),
-            Word::Poke => return set(self.run.as_flattened_mut(), a.size, b.byte),
-            Word::Seal => return self.seal(a.size),
-            Word::Bytes => return self.bytes(a.size, b.size),
-            _ => return false,
+            Word::Take => return self.take(command.a.size),
+            Word::Poke => return set(self.run.as_flattened_mut(), command.a.size, command.b.byte),
+            Word::Seal => return self.seal(command.a.size),
+            Word::Bytes => return self.bytes(command.a.size, command.b.size),
+            _ => return self.obey_charts(command),
         }
         true
     }
 
     // The check of some bytes.
-    fn check(&mut self, text: &str) {
-        let [high, low] = file::check(text.as_bytes()).to_be_bytes();
+    fn check(&mut self, text: &[u8]) {
+        let [high, low] = file::check(text).to_be_bytes();
         self.text(text);
-        self.print(": check %%\n", &[high.into(), low.into()]);
+        self.print(b": check %%\n", &[high.into(), low.into()]);
     }
 
     // The prepared record is listed.
     fn list(&mut self) {
         if self.list.try_extend_from_slice(&self.record).is_err() {
-            self.text(" no room");
+            self.text(b" no room");
         }
     }
 
@@ -79,11 +78,11 @@ impl Desk {
             },
         };
         self.target = target;
-        self.print(" refused # place #", &row_and_place(refused));
+        self.print(b" refused # place #", &row_and_place(refused));
         self.text(if target == [FILL; TARGET] {
-            " kept"
+            b" kept".as_slice()
         } else {
-            " written"
+            b" written"
         });
         if refused.is_none() {
             self.keep_formed(closing.is_some());
@@ -111,7 +110,7 @@ impl Desk {
         self.state = r.state;
         let [row, place] = row_and_place(r.ended.err());
         let figures = [r.blocks.into(), row, place, r.state.next.into()];
-        self.print(" blocks # refused # place # next #", &figures);
+        self.print(b" blocks # refused # place # next #", &figures);
         true
     }
 
@@ -132,9 +131,9 @@ impl Desk {
         let Some(bytes) = target.get(from..to) else {
             return false;
         };
-        self.text(" ");
+        self.text(b" ");
         for byte in bytes {
-            self.print("%", &[(*byte).into()]);
+            self.print(b"%", &[(*byte).into()]);
         }
         true
     }

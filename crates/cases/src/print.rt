@@ -4,17 +4,17 @@ use arrayvec::ArrayString;
 use std::fmt::Write;
 
 impl Desk {
-    pub fn text(&mut self, text: &str) {
-        let _ = self.out.try_extend_from_slice(text.as_bytes());
+    pub fn text(&mut self, text: &[u8]) {
+        let _ = self.out.try_extend_from_slice(text);
     }
 
     // A text with a number in each of its places: # is a place of any number, ? of one that is none where it is below 0,
-    // and % of a byte in hexadecimal.
-    pub fn print(&mut self, text: &str, numbers: &[i128]) {
+    // % of a byte in hexadecimal, and _ of one that is left out.
+    pub fn print(&mut self, text: &[u8], numbers: &[i128]) {
         let mut numbers = numbers.iter();
-        for byte in text.as_bytes() {
+        for byte in text {
             match *byte {
-                b'#' | b'?' | b'%' => {
+                b'#' | b'?' | b'%' | b'_' => {
                     if let Some(n) = numbers.next() {
                         self.number(*byte, *n);
                     }
@@ -28,13 +28,14 @@ impl Desk {
 
     fn number(&mut self, place: u8, n: i128) {
         if place == b'?' && n < 0 {
-            return self.text("-");
+            return self.text(b"-");
         }
         let mut digits = ArrayString::<40>::new();
         let _ = match place {
+            b'_' => Ok(()),
             b'%' => write!(digits, "{n:02x}"),
             _ => write!(digits, "{n}"),
         };
-        self.text(digits.as_str());
+        self.text(digits.as_str().as_bytes());
     }
 }

@@ -22,76 +22,73 @@ fn readings(c: Chart) -> i128 {
 impl Desk {
     // Commands on the state. Whether the command is one of them.
     pub fn obey_state(&mut self, command: &Command) -> bool {
-        let [a, ..] = command.numbers;
         match command.word {
             Word::Comment => {}
             Word::Again => {
-                self.edition = a.byte;
-                self.print("edition #\n", &command.written);
+                self.edition = command.a.byte;
+                self.print(b"edition #\n", &command.written);
             }
-            Word::Edition => self.edition = a.byte,
-            Word::New => self.state = records::initial(a.unsigned),
+            Word::Edition => self.edition = command.a.byte,
+            Word::New => self.state = records::initial(command.a.unsigned),
             Word::Keep => self.kept = self.state,
             Word::Back => self.state = self.kept,
-            Word::Expect => self.state.next = a.unsigned,
-            Word::Open => self.state.edition = a.byte,
+            Word::Expect => self.state.next = command.a.unsigned,
+            Word::Open => self.state.edition = command.a.byte,
             Word::Show => self.show(),
             Word::Charts => self.charts(),
             Word::Report => self.report(),
-            Word::End => self.text("\n"),
-            _ => return false,
+            Word::End => self.text(b"\n"),
+            _ => return self.obey_record(command),
         }
         true
     }
 
     // Commands on the prepared record. Whether the command is one of them, and was obeyed.
     pub fn obey_record(&mut self, command: &Command) -> bool {
-        let [a, b, c, ..] = command.numbers;
         match command.word {
             Word::Case => {
                 self.text(command.text);
-                self.text(":");
+                self.text(b":");
             }
             Word::Record => return self.prepare(
-                a.byte,
-                b.byte,
-                c.unsigned,
+                command.a.byte,
+                command.b.byte,
+                command.c.unsigned,
                 command.list.as_slice(),
             ),
-            Word::Byte => return set(&mut self.record, a.size, b.byte),
+            Word::Byte => return set(&mut self.record, command.a.size, command.b.byte),
             Word::Try => self.attempt(command.text),
             Word::Apply => {
-                let times = if command.count == 0 { 1 } else { a.unsigned };
-                self.apply(times, b.unsigned);
+                let times = if command.count == 0 {
+                    1
+                } else {
+                    command.a.unsigned
+                };
+                self.apply(times, command.b.unsigned);
             }
-            _ => return false,
+            _ => return self.obey_file(command),
         }
         true
     }
 
     // What the prepared record would meet. The state stays as it is.
-    fn attempt(&mut self, title: &str) {
+    fn attempt(&mut self, title: &[u8]) {
         let row = match step(self.state, &self.record) {
             Ok(_) => 0,
             Err(row) => row.number(),
         };
         self.text(title);
-        self.print(": #\n", &[row.into()]);
+        self.print(b": #\n", &[row.into()]);
     }
 
     // The fields of a record stand from byte 8 on: four bytes of each, but eight of the intercept of a calibration closing.
     fn prepare(&mut self, kind: u8, mark: u8, minute: u32, fields: &[i64]) -> bool {
-        let mut all = ArrayVec::<u8, 80>::new();
+        let mut all = ArrayVec::<u8, 320>::new();
         let [a, b, c, d] = minute.to_le_bytes();
         let _ = all.try_extend_from_slice(&[kind, mark, 0, 0, a, b, c, d]);
         for field in fields {
             let size = if kind == 5 && all.len() == 16 { 8 } else { 4 };
-            if all
-                .try_extend_from_slice(&field.to_le_bytes()[..size])
-                .is_err()
-            {
-                return false;
-            }
+            let _ = all.try_extend_from_slice(&field.to_le_bytes()[..size]);
         }
         if 40 < all.len() {
             return false;
@@ -108,7 +105,7 @@ impl Desk {
         for _ in 0..times {
             match step(self.state, &self.record) {
                 Ok(after) => self.state = after,
-                Err(row) => return self.print(" refused #", &[row.number().into()]),
+                Err(row) => return self.print(b" refused #", &[row.number().into()]),
             }
             let minute = records::bytes::read32(&self.record, 4).wrapping_add(apart);
             records::bytes::write32(&mut self.record, 4, minute);
@@ -132,11 +129,11 @@ impl Desk {
             demand,
         ];
         self.print(
-            " minute # zero ? span ? pairs # total # outside # over # call ?",
+            b" minute # zero ? span ? pairs # total # outside # over # call ?",
             &figures,
         );
         let Some(f) = st.calibration else {
-            return self.text(" calibration -");
+            return self.text(b" calibration -");
         };
         let figures = [
             f.slope.into(),
@@ -144,13 +141,13 @@ impl Desk {
             f.top.0.into(),
             f.minute.into(),
         ];
-        self.print(" calibration # # # #", &figures);
+        self.print(b" calibration # # # #", &figures);
     }
 
     fn charts(&mut self) {
         let st = self.state;
-        self.chart_line("zero", st.setting.zero, st.zero);
-        self.chart_line("span", st.setting.span, st.span);
+        self.chart_line(b"zero", st.setting.zero, st.zero);
+        self.chart_line(b"span", st.setting.span, st.span);
     }
 
     // The six alarms and usable.
@@ -164,11 +161,11 @@ impl Desk {
             r.span.falling.into(),
             r.span.precision.into(),
         ];
-        self.print(" alarms ######", &figures);
+        self.print(b" alarms ######", &figures);
         self.text(if r.usable {
-            " usable yes"
+            b" usable yes".as_slice()
         } else {
-            " usable no"
+            b" usable no"
         });
     }
 }

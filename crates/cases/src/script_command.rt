@@ -145,15 +145,22 @@ fn fits(kind: u8, n: i128) -> bool {
     least <= n && n <= most
 }
 
-// A command, with its name or its text, its list, and its other numbers, as they are written and in other types: 0 where
-// there is none.
+// A command, with its name or its text, its list, and its other numbers: how many, as they are written, and each by itself in
+// other types, a the first. They are 0 where there is none.
 #[derive(Drop)]
 pub struct Command<'a> {
     pub word: Word,
-    pub text: &'a str,
+    pub text: &'a [u8],
     pub count: usize,
     pub written: [i128; NUMBERS],
-    pub numbers: [Number; NUMBERS],
+    pub a: Number,
+    pub b: Number,
+    pub c: Number,
+    pub d: Number,
+    pub e: Number,
+    pub f: Number,
+    pub g: Number,
+    pub h: Number,
     pub list: ArrayVec<i64, LIST>,
 }
 
@@ -174,9 +181,18 @@ impl<'a> Command<'a> {
         if NUMBERS <= at {
             return false;
         }
+        self.count = at + 1;
         self.written[at] = n;
-        self.numbers[at] = number;
-        self.count += 1;
+        match at {
+            0 => self.a = number,
+            1 => self.b = number,
+            2 => self.c = number,
+            3 => self.d = number,
+            4 => self.e = number,
+            5 => self.f = number,
+            6 => self.g = number,
+            _ => self.h = number,
+        }
         true
     }
 
@@ -192,27 +208,16 @@ impl<'a> Command<'a> {
                 kind = *next;
             }
             if kind == b't' {
-                self.text = rest;
+                self.text = rest.as_bytes();
                 return true;
             }
             if kind == b'w' {
-                self.text = word;
+                self.text = word.as_bytes();
             } else if !self.take(kind, word) {
                 return false;
             }
         }
         true
-    }
-}
-
-impl Command<'_> {
-    // The numbers that the line of the command shows: of an annual test all but E.
-    pub fn shown(&self) -> &[i128] {
-        let written = self.written.as_slice();
-        match self.word {
-            Word::Annual => &written[1..],
-            _ => written,
-        }
     }
 }
 
@@ -224,12 +229,20 @@ pub fn command_of(line: &[u8]) -> Option<Command<'_>> {
     let (name, rest) = line.split_once(' ').unwrap_or((line, ""));
     for (word_name, kinds, least, word) in &WORDS {
         if *word_name == name {
+            let none = number_of(0);
             let mut command = Command {
                 word: *word,
-                text: "",
+                text: b"",
                 count: 0,
                 written: [0; NUMBERS],
-                numbers: [number_of(0); NUMBERS],
+                a: none,
+                b: none,
+                c: none,
+                d: none,
+                e: none,
+                f: none,
+                g: none,
+                h: none,
                 list: ArrayVec::new(),
             };
             if command.take_all(kinds, rest) && *least <= command.count {
