@@ -98,28 +98,6 @@ fn conditions_of(t: Number, p: Number, h: Number, o: Number) -> Conditions {
     }
 }
 
-fn basis(edition: u8, limit: Number, uncertainty: Number, oxygen: Number) -> Basis {
-    Basis {
-        edition,
-        requirements: Requirements {
-            limit: limit.small,
-            uncertainty: uncertainty.small,
-            oxygen: oxygen.small,
-        },
-    }
-}
-
-fn line_of(slope: Number, intercept: Number) -> Line {
-    Line {
-        slope: slope.small,
-        intercept: intercept.long,
-    }
-}
-
-fn refused(row: Refusal) -> Option<[i128; 6]> {
-    Some([row.number().into(), 0, 0, 0, 0, 0])
-}
-
 impl Desk {
     // Commands that write a line of figures. Whether the command is one of them.
     pub fn obey_figures(&mut self, command: &Command) -> bool {
@@ -169,7 +147,10 @@ impl Desk {
                 try_value(
                     self.edition,
                     command.h.small,
-                    line_of(command.b, command.c),
+                    Line {
+                        slope: command.b.small,
+                        intercept: command.c.long,
+                    },
                     conditions_of(command.d, command.e, command.f, command.g),
                     command.a.small,
                 ),
@@ -191,7 +172,14 @@ impl Desk {
 
     // The row that refuses a fit, 0 for none, and its figures, each 0 where it is refused.
     fn fit(&self, command: &Command) -> Option<[i128; 6]> {
-        let b = basis(self.edition, command.b, command.c, command.d);
+        let b = Basis {
+            edition: self.edition,
+            requirements: Requirements {
+                limit: command.b.small,
+                uncertainty: command.c.small,
+                oxygen: command.d.small,
+            },
+        };
         let pairs = self.pairs.as_slice();
         let pairs = &pairs[..command.a.size.min(pairs.len())];
         let fit = match command.word {
@@ -207,19 +195,30 @@ impl Desk {
                 f.top.0.into(),
                 f.count.into(),
             ]),
-            Some(Err(row)) => refused(row),
+            Some(Err(row)) => Some([row.number().into(), 0, 0, 0, 0, 0]),
             None => None,
         }
     }
 
     // The row that refuses an annual test, and its two verdicts likewise.
     fn annual(&self, command: &Command) -> Option<[i128; 6]> {
-        let b = basis(self.edition, command.a, command.c, command.d);
+        let b = Basis {
+            edition: self.edition,
+            requirements: Requirements {
+                limit: command.a.small,
+                uncertainty: command.c.small,
+                oxygen: command.d.small,
+            },
+        };
+        let l = Line {
+            slope: command.e.small,
+            intercept: command.f.long,
+        };
         let pairs = self.pairs.as_slice();
         let pairs = &pairs[..command.b.size.min(pairs.len())];
-        match try_annual(pairs, b, line_of(command.e, command.f)) {
+        match try_annual(pairs, b, l) {
             Some(Ok(v)) => Some([0, v.variability.into(), v.function.into(), 0, 0, 0]),
-            Some(Err(row)) => refused(row),
+            Some(Err(row)) => Some([row.number().into(), 0, 0, 0, 0, 0]),
             None => None,
         }
     }

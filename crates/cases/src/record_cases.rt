@@ -81,8 +81,10 @@ impl Desk {
         self.print(b": #\n", &[row.into()]);
     }
 
-    // The fields of a record stand from byte 8 on: four bytes of each, but eight of the intercept of a calibration closing.
+    // The fields of a record stand from byte 8 on: four bytes of each, but eight of the intercept of a calibration closing. Whether
+    // they have room.
     fn prepare(&mut self, kind: u8, mark: u8, minute: u32, fields: &[i64]) -> bool {
+        // Room for more fields than a list has.
         let mut all = ArrayVec::<u8, 320>::new();
         let [a, b, c, d] = minute.to_le_bytes();
         let _ = all.try_extend_from_slice(&[kind, mark, 0, 0, a, b, c, d]);
