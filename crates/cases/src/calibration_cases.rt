@@ -89,7 +89,7 @@ fn sound(command: &Command) -> Option<[i128; 6]> {
     Some([c.sound().into(), 0, 0, 0, 0, 0])
 }
 
-fn conditions_of(t: Number, p: Number, h: Number, o: Number) -> Conditions {
+pub fn conditions_of(t: Number, p: Number, h: Number, o: Number) -> Conditions {
     Conditions {
         temperature: t.small,
         pressure: p.small,
@@ -221,12 +221,6 @@ impl Desk {
             Some(Err(row)) => Some([row.number().into(), 0, 0, 0, 0, 0]),
             None => None,
         }
-    }
-
-    // The conditions that pairs are listed with.
-    pub fn conditions(&mut self, command: &Command) {
-        self.first = conditions_of(command.a, command.b, command.c, command.d);
-        self.others = conditions_of(command.e, command.f, command.g, command.h);
     }
 
     // Signals, each with its SRM value, in the place of what was listed; behind the last it comes again, up to the end. Whether

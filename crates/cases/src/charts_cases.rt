@@ -1,5 +1,6 @@
 // Charts. The line of a chart has its name, s and the last difference, the sums P, M and V with their counts, the adjustments to be taken off and put on,
 // and the rising, falling and precision alarm.
+use crate::calibration_cases::conditions_of;
 use crate::desk::Desk;
 use crate::script_command::{Command, Word};
 use charts::Chart;
@@ -29,7 +30,10 @@ impl Desk {
             Word::More => self.read(command, 1, command.a.short),
             Word::Chart => self.chart_line(command.text, command.a.short, self.chart),
             Word::Fill => self.read(command, command.a.unsigned, command.b.short),
-            Word::Conditions => self.conditions(command),
+            Word::Conditions => {
+                self.first = conditions_of(command.a, command.b, command.c, command.d);
+                self.others = conditions_of(command.e, command.f, command.g, command.h);
+            }
             Word::Pairs => return self.list_pairs(command.list.as_slice()),
             Word::Pair => return self.change_pair(command),
             Word::Sound => {

@@ -119,9 +119,8 @@ impl Desk {
         let Some(block) = self.run.get_mut(block) else {
             return false;
         };
-        let [low, high] = file::check(&block[..510]).to_le_bytes();
-        block[510] = low;
-        block[511] = high;
+        let check = file::check(&block[..510]);
+        records::bytes::write16(block, 510, check);
         true
     }
 

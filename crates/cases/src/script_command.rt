@@ -221,34 +221,43 @@ impl<'a> Command<'a> {
     }
 }
 
+// The row of a word: what it takes, how many numbers at least, and the word.
+fn row_of(text: &str) -> Option<(&'static str, usize, Word)> {
+    for (name, kinds, least, word) in &WORDS {
+        if *name == text {
+            return Some((*kinds, *least, *word));
+        }
+    }
+    None
+}
+
 // The command of a line. None where it is none, or has other numbers than its command takes.
 pub fn command_of(line: &[u8]) -> Option<Command<'_>> {
     let Ok(line) = str::from_utf8(line) else {
         return None;
     };
     let (name, rest) = line.split_once(' ').unwrap_or((line, ""));
-    for (word_name, kinds, least, word) in &WORDS {
-        if *word_name == name {
-            let none = number_of(0);
-            let mut command = Command {
-                word: *word,
-                text: b"",
-                count: 0,
-                written: [0; NUMBERS],
-                a: none,
-                b: none,
-                c: none,
-                d: none,
-                e: none,
-                f: none,
-                g: none,
-                h: none,
-                list: ArrayVec::new(),
-            };
-            if command.take_all(kinds, rest) && *least <= command.count {
-                return Some(command);
-            }
-        }
+    let Some((kinds, least, word)) = row_of(name) else {
+        return None;
+    };
+    let none = number_of(0);
+    let mut command = Command {
+        word,
+        text: b"",
+        count: 0,
+        written: [0; NUMBERS],
+        a: none,
+        b: none,
+        c: none,
+        d: none,
+        e: none,
+        f: none,
+        g: none,
+        h: none,
+        list: ArrayVec::new(),
+    };
+    if !command.take_all(kinds, rest) || command.count < least {
+        return None;
     }
-    None
+    Some(command)
 }
