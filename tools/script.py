@@ -21,7 +21,7 @@ class Unknown(Exception):
 
 def whole(word, low, high):
     """The number that a word is, in a range."""
-    digits = word[1:] if word[:1] == '-' else word
+    digits = word[1:] if word[:1] in ('-', '+') else word
     if not digits.isascii() or not digits.isdigit() or not low <= int(word) <= high:
         raise Unknown
     return int(word)
@@ -488,7 +488,7 @@ def answers(script):
         line = line.rstrip('\n')
         if line.startswith('again '):
             run_again(d, line[6:], list(above))
-        elif line and not line.startswith('#'):
+        elif line and line.partition(' ')[0] != '#':
             run_line(d, line)
             above.append(line)
         yield from (text + '\n' for text in d.lines)

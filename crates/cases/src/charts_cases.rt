@@ -1,11 +1,9 @@
 // Charts. The line of a chart has its name, s and the last difference, the sums P, M and V with their counts, the adjustments to be taken off and put on,
 // and the rising, falling and precision alarm.
-use crate::print::Out;
-use charts::{Chart, Sum};
-
-pub fn fresh() -> Chart {
-    charts::unstarted().reset()
-}
+use crate::calibration_cases::conditions_of;
+use crate::desk::Desk;
+use crate::script_command::{Command, Word};
+use charts::Chart;
 
 // A reading, where the chart and the difference are in the range that `apply` asks for; else the chart as it is.
 fn applied(edition: u8, c: Chart, s: u16, d: i64) -> Chart {
@@ -18,54 +16,68 @@ fn applied(edition: u8, c: Chart, s: u16, d: i64) -> Chart {
     c.apply(edition, s, d)
 }
 
-pub fn show(out: &mut Out, name: &[u8], s: u16, c: Chart) {
-    let a = c.alarms(s);
-    let figures = [
-        i64::from(s),
-        i64::from(c.last),
-        c.rising.value.cast_signed(),
-        i64::from(c.rising.count),
-        c.falling.value.cast_signed(),
-        i64::from(c.falling.count),
-        c.precision.value.cast_signed(),
-        i64::from(c.precision.count),
-        c.downward.cast_signed(),
-        c.upward.cast_signed(),
-        i64::from(a.rising),
-        i64::from(a.falling),
-        i64::from(a.precision),
-    ];
-    out.text(name);
-    out.print(
-        b" s # d # P # # M # # V # # off # on # alarms ###\n",
-        &figures,
-    );
-}
-
-// Applies the differences one after the other, with a line for each.
-pub fn series(out: &mut Out, edition: u8, c: &mut Chart, name: &[u8], s: u16, ds: &[i64]) {
-    for d in ds {
-        *c = applied(edition, *c, s, *d);
-        show(out, name, s, *c);
+impl Desk {
+    // Commands on a chart and on the pairs that are listed. Whether the command is one of them, and was obeyed.
+    pub fn obey_charts(&mut self, command: &Command) -> bool {
+        match command.word {
+            Word::Unstarted => self.chart = charts::unstarted(),
+            Word::Reset => self.chart = self.chart.reset(),
+            Word::Stop => self.chart.started = false,
+            Word::Series => {
+                self.chart = charts::unstarted().reset();
+                self.read(command, 1, command.a.short);
+            }
+            Word::More => self.read(command, 1, command.a.short),
+            Word::Chart => self.chart_line(command.text, command.a.short, self.chart),
+            Word::Fill => self.read(command, command.a.unsigned, command.b.short),
+            Word::Conditions => {
+                self.first = conditions_of(command.a, command.b, command.c, command.d);
+                self.others = conditions_of(command.e, command.f, command.g, command.h);
+            }
+            Word::Pairs => return self.list_pairs(command.list.as_slice()),
+            Word::Pair => return self.change_pair(command),
+            Word::Sound => {
+                self.text(b"sound ");
+                return self.obey_figures(command);
+            }
+            _ => return self.obey_figures(command),
+        }
+        true
     }
-}
 
-// Applies the differences n times over, with no line.
-pub fn fill(edition: u8, c: &mut Chart, n: i64, s: u16, ds: &[i64]) {
-    for _ in 0..n {
-        for d in ds {
-            *c = applied(edition, *c, s, *d);
+    // Applies the differences one after the other, a number of times over; with a line for each, but for `fill`.
+    fn read(&mut self, command: &Command, times: u32, s: u16) {
+        for _ in 0..times {
+            for d in command.list.as_slice() {
+                self.chart = applied(self.edition, self.chart, s, *d);
+                if !matches!(command.word, Word::Fill) {
+                    self.chart_line(command.text, s, self.chart);
+                }
+            }
         }
     }
-}
 
-// Whether a chart with these readings, this last difference, and this value and count of P is sound.
-pub fn sound(out: &mut Out, name: &[u8], readings: u32, last: i32, p: Sum) {
-    let mut c = fresh();
-    c.readings = readings;
-    c.last = last;
-    c.rising = p;
-    out.text(b"sound ");
-    out.text(name);
-    out.print(b" #\n", &[i64::from(c.sound())]);
+    pub fn chart_line(&mut self, name: &[u8], s: u16, c: Chart) {
+        let a = c.alarms(s);
+        let figures = [
+            s.into(),
+            c.last.into(),
+            c.rising.value.into(),
+            c.rising.count.into(),
+            c.falling.value.into(),
+            c.falling.count.into(),
+            c.precision.value.into(),
+            c.precision.count.into(),
+            c.downward.into(),
+            c.upward.into(),
+            a.rising.into(),
+            a.falling.into(),
+            a.precision.into(),
+        ];
+        self.text(name);
+        self.print(
+            b" s # d # P # # M # # V # # off # on # alarms ###\n",
+            &figures,
+        );
+    }
 }

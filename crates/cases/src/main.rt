@@ -10,15 +10,12 @@
 // refusals, and knows nothing of this code.
 mod calibration_cases;
 mod charts_cases;
-mod layers;
-mod listed_pairs;
+mod desk;
+mod file_cases;
 mod print;
-mod rounding_cases;
+mod record_cases;
 mod script;
 mod script_command;
-mod script_desk;
-mod script_record;
-mod script_words;
 
 use std::io;
 

@@ -1,80 +1,41 @@
 // What a script prints, kept until it has ended.
-use arrayvec::{ArrayString, ArrayVec};
+use crate::desk::Desk;
+use arrayvec::ArrayString;
 use std::fmt::Write;
 
-// A script prints less than this.
-const LIMIT: usize = 262144;
-
-#[derive(Drop)]
-pub struct Out {
-    bytes: ArrayVec<u8, LIMIT>,
-    // Whether something had no room.
-    pub is_short: bool,
-}
-
-impl Out {
-    pub fn new() -> Out {
-        Out {
-            bytes: ArrayVec::new(),
-            is_short: false,
-        }
-    }
-
-    pub fn bytes(&self) -> &[u8] {
-        self.bytes.as_slice()
-    }
-
+impl Desk {
     pub fn text(&mut self, text: &[u8]) {
-        if self.bytes.try_extend_from_slice(text).is_err() {
-            self.is_short = true;
-        }
+        let _ = self.out.try_extend_from_slice(text);
     }
 
-    pub fn unsigned(&mut self, n: u64) {
-        let mut digits = ArrayString::<20>::new();
-        if write!(digits, "{n}").is_ok() {
-            self.text(digits.as_str().as_bytes());
-        }
-    }
-
-    pub fn hexadecimal(&mut self, bytes: &[u8]) {
-        for byte in bytes {
-            let mut digits = ArrayString::<2>::new();
-            if write!(digits, "{byte:02x}").is_ok() {
-                self.text(digits.as_str().as_bytes());
-            }
-        }
-    }
-
-    fn number(&mut self, n: i64) {
-        if n < 0 {
-            self.text(b"-");
-        }
-        self.unsigned(n.unsigned_abs());
-    }
-
-    // A text, with the numbers in the places of its `#`s.
-    pub fn print(&mut self, text: &[u8], numbers: &[i64]) {
+    // A text with a number in each of its places: # is a place of any number, ? of one that is none where it is below 0,
+    // % of a byte in hexadecimal, and _ of one that is left out.
+    pub fn print(&mut self, text: &[u8], numbers: &[i128]) {
         let mut numbers = numbers.iter();
         for byte in text {
-            if *byte != b'#' {
-                self.text(&[*byte]);
-            } else if let Some(n) = numbers.next() {
-                self.number(*n);
+            match *byte {
+                b'#' | b'?' | b'%' | b'_' => {
+                    if let Some(n) = numbers.next() {
+                        self.number(*byte, *n);
+                    }
+                }
+                _ => {
+                    let _ = self.out.try_push(*byte);
+                }
             }
         }
     }
 
-    // A label, and a number or - for none.
-    pub fn or_none(&mut self, label: &[u8], n: Option<u32>) {
-        self.text(label);
-        match n {
-            Some(n) => self.unsigned(u64::from(n)),
-            None => self.text(b"-"),
+    fn number(&mut self, place: u8, n: i128) {
+        if place == b'?' && n < 0 {
+            return self.text(b"-");
         }
-    }
-
-    pub fn unknown(&mut self) {
-        self.text(b"unknown\n");
+        let mut digits = ArrayString::<40>::new();
+        let _ = match place {
+            b'_' => Ok(()),
+            b'%' => write!(digits, "{n:02x}"),
+            _ => write!(digits, "{n}"),
+        };
+        self.text(digits.as_str().as_bytes());
     }
 }

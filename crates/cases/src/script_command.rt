@@ -1,17 +1,17 @@
 // The commands of the script.
-use crate::script_words::{first_word, number, to_i32};
+use arrayvec::ArrayVec;
 
-// The most numbers of a command: sixteen pairs.
-const NUMBERS: usize = 32;
+// The most numbers of a command, beside those of its list, and the most of a list: sixteen pairs.
+const NUMBERS: usize = 8;
+
+const LIST: usize = 32;
 
 #[derive(Clone, Copy)]
 pub enum Word {
-    // lines that have no numbers, or not only
-    Again,
-    Case,
-    Try,
-    Check,
+    Comment,
     // rounding and charts
+    Again,
+    Edition,
     Near,
     Unsigned,
     Unstarted,
@@ -32,6 +32,8 @@ pub enum Word {
     Lent,
     Annual,
     // records
+    Case,
+    Try,
     New,
     Record,
     Byte,
@@ -39,13 +41,13 @@ pub enum Word {
     Keep,
     Back,
     Expect,
-    Edition,
     Open,
     Show,
     Charts,
     Report,
     End,
     // blocks
+    Check,
     List,
     Clear,
     Form,
@@ -56,148 +58,206 @@ pub enum Word {
     Bytes,
 }
 
-// Each word, with what it takes behind it: t, the rest of the line as it is; or w, a name, and the kinds of its
-// numbers. A kind is the bytes of an unsigned number, or i for one of 32 bits, n for one that is not below 0, and l for
-// any. Q and S are 4 and l that may be missing; I and L, which stand last, are any number of i and l.
-static WORDS: [(&[u8], Word); 43] = [
-    (b"again 1", Word::Again),
-    (b"case t", Word::Case),
-    (b"try t", Word::Try),
-    (b"check t", Word::Check),
-    (b"near ll", Word::Near),
-    (b"unsigned t", Word::Unsigned),
-    (b"unstarted", Word::Unstarted),
-    (b"reset", Word::Reset),
-    (b"stop", Word::Stop),
-    (b"series w2L", Word::Series),
-    (b"more w2L", Word::More),
-    (b"chart w2", Word::Chart),
-    (b"fill l2L", Word::Fill),
-    (b"sound w4il4", Word::Sound),
-    (b"standard iiiiii", Word::Standard),
-    (b"value iiliiiii", Word::Value),
-    (b"conditions iiiiiiii", Word::Conditions),
-    (b"pairs I", Word::Pairs),
-    (b"pair nii", Word::Pair),
-    (b"fit wniiii", Word::Fit),
-    (b"lent wniiii", Word::Lent),
-    (b"annual winiiil", Word::Annual),
-    (b"new 4", Word::New),
-    (b"record 114L", Word::Record),
-    (b"byte n1", Word::Byte),
-    (b"apply SQ", Word::Apply),
-    (b"keep", Word::Keep),
-    (b"back", Word::Back),
-    (b"expect 4", Word::Expect),
-    (b"edition 1", Word::Edition),
-    (b"open 1", Word::Open),
-    (b"show", Word::Show),
-    (b"charts", Word::Charts),
-    (b"report", Word::Report),
-    (b"end", Word::End),
-    (b"list", Word::List),
-    (b"clear", Word::Clear),
-    (b"form lS", Word::Form),
-    (b"make 14ilS", Word::Make),
-    (b"take n", Word::Take),
-    (b"poke n1", Word::Poke),
-    (b"seal n", Word::Seal),
-    (b"bytes nn", Word::Bytes),
+// Each word, with what it takes behind it, and how many numbers it has at least. A t is the rest of the line as it is, a w a
+// name. Else a letter is the kind of a number: the bytes of an unsigned one, or i for one of 32 bits, n for one that is not
+// below 0, and l for any. I and L, which stand last, are a list of any number of i and l.
+static WORDS: [(&str, &str, usize, Word); 45] = [
+    ("", "", 0, Word::Comment),
+    ("#", "t", 0, Word::Comment),
+    ("again", "1", 1, Word::Again),
+    ("edition", "1", 1, Word::Edition),
+    ("near", "ll", 2, Word::Near),
+    ("unsigned", "nn", 2, Word::Unsigned),
+    ("unstarted", "", 0, Word::Unstarted),
+    ("reset", "", 0, Word::Reset),
+    ("stop", "", 0, Word::Stop),
+    ("series", "w2I", 1, Word::Series),
+    ("more", "w2I", 1, Word::More),
+    ("chart", "w2", 1, Word::Chart),
+    ("fill", "42I", 2, Word::Fill),
+    ("sound", "w4il4", 4, Word::Sound),
+    ("standard", "iiiiii", 6, Word::Standard),
+    ("value", "iiliiiii", 8, Word::Value),
+    ("conditions", "iiiiiiii", 8, Word::Conditions),
+    ("pairs", "I", 0, Word::Pairs),
+    ("pair", "nii", 3, Word::Pair),
+    ("fit", "wniiii", 5, Word::Fit),
+    ("lent", "wniiii", 5, Word::Lent),
+    ("annual", "winiiil", 6, Word::Annual),
+    ("case", "t", 0, Word::Case),
+    ("try", "t", 0, Word::Try),
+    ("new", "4", 1, Word::New),
+    ("record", "114L", 3, Word::Record),
+    ("byte", "n1", 2, Word::Byte),
+    ("apply", "44", 0, Word::Apply),
+    ("keep", "", 0, Word::Keep),
+    ("back", "", 0, Word::Back),
+    ("expect", "4", 1, Word::Expect),
+    ("open", "1", 1, Word::Open),
+    ("show", "", 0, Word::Show),
+    ("charts", "", 0, Word::Charts),
+    ("report", "", 0, Word::Report),
+    ("end", "", 0, Word::End),
+    ("check", "t", 0, Word::Check),
+    ("list", "", 0, Word::List),
+    ("clear", "", 0, Word::Clear),
+    ("form", "nn", 1, Word::Form),
+    ("make", "14inn", 4, Word::Make),
+    ("take", "n", 1, Word::Take),
+    ("poke", "n1", 2, Word::Poke),
+    ("seal", "n", 1, Word::Seal),
+    ("bytes", "nn", 2, Word::Bytes),
 ];
 
-// The word, and what it takes.
-fn word_of(text: &[u8]) -> Option<(Word, &'static [u8])> {
-    for (row, word) in &WORDS {
-        let (name, takes) = first_word(row);
-        if name == text {
-            return Some((*word, takes));
+// A number in the types that it may be wanted in: its lowest bytes, which are all of a number that fits.
+#[derive(Clone, Copy)]
+pub struct Number {
+    pub long: i64,
+    pub small: i32,
+    pub unsigned: u32,
+    pub short: u16,
+    pub byte: u8,
+    pub size: usize,
+}
+
+fn number_of(n: i128) -> Number {
+    let [a, b, c, d, e, f, g, h, ..] = n.to_le_bytes();
+    Number {
+        long: i64::from_le_bytes([a, b, c, d, e, f, g, h]),
+        small: i32::from_le_bytes([a, b, c, d]),
+        unsigned: u32::from_le_bytes([a, b, c, d]),
+        short: u16::from_le_bytes([a, b]),
+        byte: a,
+        size: usize::from_le_bytes([a, b, c, d, e, f, g, h]),
+    }
+}
+
+// Whether a number is of its kind.
+fn fits(kind: u8, n: i128) -> bool {
+    let (least, most) = match kind {
+        b'1' => (0, 0xff),
+        b'2' => (0, 0xffff),
+        b'4' => (0, 0xffffffff),
+        b'i' | b'I' => (-0x80000000, 0x7fffffff),
+        b'n' => (0, 0xffffffffffffffff),
+        _ => (-0x8000000000000000, 0x7fffffffffffffff),
+    };
+    least <= n && n <= most
+}
+
+// A command, with its name or its text, its list, and its other numbers: how many, as they are written, and each by itself in
+// other types, a the first. They are 0 where there is none.
+#[derive(Drop)]
+pub struct Command<'a> {
+    pub word: Word,
+    pub text: &'a [u8],
+    pub count: usize,
+    pub written: [i128; NUMBERS],
+    pub a: Number,
+    pub b: Number,
+    pub c: Number,
+    pub d: Number,
+    pub e: Number,
+    pub f: Number,
+    pub g: Number,
+    pub h: Number,
+    pub list: ArrayVec<i64, LIST>,
+}
+
+impl<'a> Command<'a> {
+    // Takes a number of a kind. Whether it is one, and there is room.
+    fn take(&mut self, kind: u8, word: &str) -> bool {
+        let Ok(n) = word.parse::<i128>() else {
+            return false;
+        };
+        if !fits(kind, n) {
+            return false;
+        }
+        let number = number_of(n);
+        if kind == b'I' || kind == b'L' {
+            return self.list.try_push(number.long).is_ok();
+        }
+        let at = self.count;
+        if NUMBERS <= at {
+            return false;
+        }
+        self.count = at + 1;
+        self.written[at] = n;
+        match at {
+            0 => self.a = number,
+            1 => self.b = number,
+            2 => self.c = number,
+            3 => self.d = number,
+            4 => self.e = number,
+            5 => self.f = number,
+            6 => self.g = number,
+            _ => self.h = number,
+        }
+        true
+    }
+
+    // Takes the rest of a line by the kinds of what it has. Whether that is so.
+    fn take_all(&mut self, kinds: &str, rest: &'a str) -> bool {
+        let mut kinds = kinds.as_bytes().iter();
+        let mut kind = b' ';
+        for word in rest.split_whitespace() {
+            if kind != b'I' && kind != b'L' {
+                let Some(next) = kinds.next() else {
+                    return false;
+                };
+                kind = *next;
+            }
+            if kind == b't' {
+                self.text = rest.as_bytes();
+                return true;
+            }
+            if kind == b'w' {
+                self.text = word.as_bytes();
+            } else if !self.take(kind, word) {
+                return false;
+            }
+        }
+        true
+    }
+}
+
+// The row of a word: what it takes, how many numbers at least, and the word.
+fn row_of(text: &str) -> Option<(&'static str, usize, Word)> {
+    for (name, kinds, least, word) in &WORDS {
+        if *name == text {
+            return Some((*kinds, *least, *word));
         }
     }
     None
 }
 
-// Whether a number is of its kind.
-fn fits(kind: u8, n: i64) -> bool {
-    let (least, most) = match kind {
-        b'1' => (0, 0xff),
-        b'2' => (0, 0xffff),
-        b'4' | b'Q' => (0, 0xffffffff),
-        b'i' | b'I' => (-0x80000000, 0x7fffffff),
-        b'n' => (0, i64::MAX),
-        _ => (i64::MIN, i64::MAX),
-    };
-    least <= n && n <= most
-}
-
-// A command, with its name or its text, and its numbers: 0 for those that are not there. `small` has them in 32 bits, 0
-// where one does not fit.
-#[derive(Drop)]
-pub struct Command<'a> {
-    pub word: Word,
-    pub text: &'a [u8],
-    pub numbers: [i64; NUMBERS],
-    pub small: [i32; NUMBERS],
-    pub count: usize,
-}
-
-impl Command<'_> {
-    // The numbers from one on.
-    pub fn from(&self, at: usize) -> &[i64] {
-        self.numbers.get(at..self.count).unwrap_or(&[])
-    }
-
-    // Takes a number of a kind, where it is one.
-    fn take(&mut self, kind: u8, word: &[u8]) -> Option<()> {
-        let n = number(word)?;
-        if !fits(kind, n) || NUMBERS <= self.count {
-            return None;
-        }
-        self.numbers[self.count] = n;
-        self.small[self.count] = to_i32(n);
-        self.count += 1;
-        Some(())
-    }
-
-    // Takes the numbers of a part of a line, with spaces between them. None where they are not those that the kinds ask
-    // for, or something else stands there.
-    fn take_all(&mut self, kinds: &[u8], text: &[u8]) -> Option<()> {
-        let mut kinds = kinds.iter();
-        let mut kind = b' ';
-        for word in text.split(|b| *b == b' ') {
-            if word.is_empty() {
-                continue;
-            }
-            if kind != b'I' && kind != b'L' {
-                kind = *kinds.next()?;
-            }
-            self.take(kind, word)?;
-        }
-        match kinds.next() {
-            Some(kind) if !kind.is_ascii_uppercase() => None,
-            _ => Some(()),
-        }
-    }
-}
-
 // The command of a line. None where it is none, or has other numbers than its command takes.
 pub fn command_of(line: &[u8]) -> Option<Command<'_>> {
-    let (word, rest) = first_word(line);
-    let (word, takes) = word_of(word)?;
+    let Ok(line) = str::from_utf8(line) else {
+        return None;
+    };
+    let (name, rest) = line.split_once(' ').unwrap_or((line, ""));
+    let Some((kinds, least, word)) = row_of(name) else {
+        return None;
+    };
+    let none = number_of(0);
     let mut command = Command {
         word,
-        text: rest,
-        numbers: [0; NUMBERS],
-        small: [0; NUMBERS],
+        text: b"",
         count: 0,
+        written: [0; NUMBERS],
+        a: none,
+        b: none,
+        c: none,
+        d: none,
+        e: none,
+        f: none,
+        g: none,
+        h: none,
+        list: ArrayVec::new(),
     };
-    match takes {
-        b"t" => {}
-        [b'w', kinds @ ..] => {
-            let (name, rest) = first_word(rest);
-            command.text = name;
-            command.take_all(kinds, rest)?;
-        }
-        _ => command.take_all(takes, rest)?,
+    if !command.take_all(kinds, rest) || command.count < least {
+        return None;
     }
     Some(command)
 }
