@@ -6,6 +6,9 @@ use calibration::{Actual, Basis, Conditions, Figures, Line, Pair, Requirements, 
 use charts::Sum;
 use refusals::Refusal;
 
+// What stands in the line behind the name, with the numbers of the command; what follows, with the figures; and the figures: none where the call is not made.
+type Figured = (&'static [u8], &'static [u8], Option<[i128; 6]>);
+
 // ---- the calls, where their arguments are in range
 
 // n within 2^62 of 0, d from 1 to 2^61.
@@ -113,13 +116,9 @@ impl Desk {
         true
     }
 
-    // What stands in the line behind the name, with the numbers of the command, and what follows with the figures: none where
-    // the call is not made.
-    fn figures(
-        &self,
-        command: &Command,
-    ) -> Option<(&'static [u8], &'static [u8], Option<[i128; 6]>)> {
-        let line: (&'static [u8], &'static [u8], Option<[i128; 6]>) = match command.word {
+    // The figures of rounding and of a sound chart, or else those of calibration.
+    fn figures(&self, command: &Command) -> Option<Figured> {
+        let line: Figured = match command.word {
             Word::Near => (
                 b"near #/#",
                 b" #\n",
@@ -131,6 +130,13 @@ impl Desk {
                 try_unsigned(self.edition, command.a.size, command.b.size),
             ),
             Word::Sound => (b"", b" #\n", sound(command)),
+            _ => return self.calibration_figures(command),
+        };
+        Some(line)
+    }
+
+    fn calibration_figures(&self, command: &Command) -> Option<Figured> {
+        let line: Figured = match command.word {
             Word::Standard => (
                 b"standard # t # p # h # o # reference #",
                 b" is #\n",
