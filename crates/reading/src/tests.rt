@@ -3,7 +3,7 @@ use crate::{RunError, run};
 use std::io::{Error, ErrorKind, Read, Result, Write};
 use std::test::Fail;
 
-// Gives `left` bytes, at most `most` at a time, and then fails.
+// Gives `left` bytes, at most `most` at a time, and then fails once: who tried again would get more.
 #[derive(Drop)]
 struct Failing {
     left: usize,
@@ -13,6 +13,7 @@ struct Failing {
 impl Read for Failing {
     fn read(&mut self, buf: &mut [u8]) -> Result<usize> {
         if self.left == 0 {
+            self.left = self.most;
             return Err(Error::from(ErrorKind::Other));
         }
         let count = self.most.min(self.left).min(buf.len());
