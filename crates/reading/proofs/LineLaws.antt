@@ -1,17 +1,15 @@
 -- Laws of the printed lines: the digits, how long a line can be, and the lines of blocks one after another.
 use Rattle.std.specs.Prelude.{◌≡◌, refl, Bool, true, false, List, [], ◌∷◌, ◌++◌, ℕ, zero, suc, ◌+◌, ◌*◌, ◌/◌, ◌%◌, ◌^◌, ◌≤◌, ◌<◌, ltb, eqb, length, take, drop, Some, None, if◌then◌else◌}
 use Rattle.std.specs.Fmt.{decimal}
-use Rattle.std.specs.Int.{from_bool}
 use Rattle.std.specs.Simd.{first_chunks}
-use Rattle.std.specs.declared.option.Option.{Option}
 use Rattle.std.proofs.Common.{sym, ap, ◌∙◌, get_or, get_or-take, append-nil, append_assoc, length-append, lt-ltb, le-ltb, eq-eqb, ne_eqb, add-zero}
-use Rattle.std.proofs.lemmas.Fmt.{AppendsLastDigit, decimal_digit, decimal_from_appends, length-decimal-le}
+use Rattle.std.proofs.lemmas.Fmt.{AppendsLastDigit, decimal_from_appends, length-decimal-le}
 use native.Mathlib.Omega.{arith}
 use Rattle.charts.specs.Tests.{if_all}
 use Rattle.records.specs.Bytes.{byte_at}
 use Rattle.file.specs.declared.Report.{Report}
 use Rattle.reading.specs.Telling.{lines_of_blocks}
-use Rattle.reading.specs.Lines.{alarms_word, usable, yes, no, dash, newline, decimal_from, decimal_of, place_text, place_or_dash, yes_or_no_of, flag, flags_text, taken_line, refused_line, stopped_line, report_line, taken_lines}
+use Rattle.reading.specs.Lines.{alarms_word, usable, yes, no, dash, newline, decimal_from, decimal_of, place_text, yes_or_no_of, flags_text, taken_line, refused_line, stopped_line, report_line, taken_lines}
 
 -- ---- numbers
 
@@ -71,28 +69,11 @@ pub stopped_some : (number refusal place : ℕ) → (place ≡ 255 → ⊥) → 
 unfolding refused_line
 stopped_some number refusal place n = rw (place_some place n)
 
--- ---- lines, as the code puts them together
+-- ---- the last line, as the code puts it together
 
-pub taken_text : (number count : ℕ) → number < 2 ^ 64 → count < 2 ^ 64 → decimal number ++ (32 ∷ 116 ∷ 97 ∷ 107 ∷ 101 ∷ 110 ∷ 32 ∷ (decimal count ++ newline)) ≡ taken_line number count
-unfolding taken_line
-taken_text number count h l = rw (decimal_text number h, decimal_text count l) (simp append_assoc)
-
-pub stopped_text : (number row : ℕ) (place : Option ℕ) (text : List ℕ) → number < 2 ^ 64 → row < 2 ^ 64 → text ≡ place_or_dash place
-    → decimal number ++ (32 ∷ 114 ∷ 101 ∷ 102 ∷ 117 ∷ 115 ∷ 101 ∷ 100 ∷ 32 ∷ (decimal row ++ 32 ∷ (text ++ newline))) ≡ stopped_line number row place
-stopped_text number row place text h l e = rw (decimal_text number h, decimal_text row l, e) (simp append_assoc)
-
-flag_text : (b : Bool) → decimal (from_bool b) ≡ flag b ∷ []
-flag_text true = decimal_digit 1 (omega arith)
-flag_text false = decimal_digit 0 (omega arith)
-
-pub report_text : (r : Report) (a b c d e f : ℕ) (answer : List ℕ) → a ≡ from_bool r.zero.rising → b ≡ from_bool r.zero.falling → c ≡ from_bool r.zero.precision → d ≡ from_bool r.span.rising → e ≡ from_bool r.span.falling
-    → f ≡ from_bool r.span.precision → answer ≡ yes_or_no_of r.usable
-    → 97 ∷ 108 ∷ 97 ∷ 114 ∷ 109 ∷ 115 ∷ 32 ∷ (decimal a ++ (decimal b ++ (decimal c ++ (decimal d ++ (decimal e ++ (decimal f ++ 32 ∷ 117 ∷ 115 ∷ 97 ∷ 98 ∷ 108 ∷ 101 ∷ 32 ∷ (answer ++ newline)))))))
-    ≡ report_line r
+pub report_text : (o : List ℕ) (r : Report) → (((((o ++ alarms_word) ++ flags_text r.zero) ++ flags_text r.span) ++ usable) ++ yes_or_no_of r.usable) ++ newline ≡ o ++ report_line r
 unfolding report_line
-report_text r a b c d e f answer ea eb ec ed ee ef es =
-    rw (ea, eb, ec, ed, ee, ef, es, flag_text r.zero.rising, flag_text r.zero.falling, flag_text r.zero.precision, flag_text r.span.rising, flag_text r.span.falling, flag_text r.span.precision)
-    (ap (λ (l : List ℕ). alarms_word ++ flags_text r.zero ++ flags_text r.span ++ usable ++ l) (go r.usable))
+report_text o r = simp append_assoc (ap (λ (l : List ℕ). o ++ (alarms_word ++ flags_text r.zero ++ flags_text r.span ++ usable ++ l)) (go r.usable))
   where
     go : (b : Bool) → yes_or_no_of b ++ newline ≡ (if b then yes else no)
     go true = refl

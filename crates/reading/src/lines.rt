@@ -1,10 +1,15 @@
-// The lines that the reader prints.
-ghost use Rattle.std.specs.Prelude.{◌≡◌};
-ghost use Rattle.reading.specs.Lines.{yes_or_no_of};
+// The lines that the reader prints, put behind a text in fixed memory. There is always room, so that none of this can fail. No contract says as much of `write!`.
+ghost use Rattle.std.specs.Prelude.{◌≡◌, ◌+◌, ◌≤◌, [], ◌∷◌, ◌++◌};
+ghost use Rattle.arrayvec.specs.ArrayString.{array_string_len};
+ghost use Rattle.reading.specs.Lines.{decimal_of, flag, flags_text, line_text, place_or_dash, report_line, yes_or_no_of};
 
+use arrayvec::ArrayString;
+use charts::Alarms;
 use file::Report;
 use refusals::Refusal;
-use std::fmt;
+
+// Room for a line of each block of a piece, and for what ends the reading. None has more than 80 bytes.
+pub const TEXT: usize = 129 * 80;
 
 // A line that the reader prints.
 #[derive(Clone, Copy)]
@@ -24,6 +29,46 @@ pub enum Line {
     Report(Report),
 }
 
+// The digits of a number.
+fn put_number(text: &mut ArrayString<TEXT>, n: u64)
+    requires { array_string_len text.old + 20 ≤ 10320 }
+    ensures bytes { text.new.bytes ≡ text.old.bytes ++ decimal_of n }
+    ensures len { array_string_len text.new ≤ array_string_len text.old + 20 }
+{
+    let mut digits = itoa::Buffer::new();
+    text.push_str(digits.format(n));
+}
+
+// A record's place, or `-` for none.
+fn put_place(text: &mut ArrayString<TEXT>, place: Option<u8>)
+    requires { array_string_len text.old + 20 ≤ 10320 }
+    ensures bytes { text.new.bytes ≡ text.old.bytes ++ place_or_dash place }
+    ensures len { array_string_len text.new ≤ array_string_len text.old + 20 }
+{
+    match place {
+        Some(place) => put_number(text, u64::from(place)),
+        None => text.push_str("-"),
+    }
+}
+
+// 1 for an alarm that stands, else 0.
+fn put_flag(text: &mut ArrayString<TEXT>, stands: bool)
+    requires { array_string_len text.old + 1 ≤ 10320 }
+    ensures { text.new.bytes ≡ text.old.bytes ++ flag stands ∷ [] }
+{
+    text.push_str(if stands { "1" } else { "0" });
+}
+
+// Rising, falling and precision of a chart.
+fn put_flags(text: &mut ArrayString<TEXT>, a: Alarms)
+    requires { array_string_len text.old + 3 ≤ 10320 }
+    ensures { text.new.bytes ≡ text.old.bytes ++ flags_text a }
+{
+    put_flag(text, a.rising);
+    put_flag(text, a.falling);
+    put_flag(text, a.precision);
+}
+
 // By hand: a bool prints true and false.
 fn yes_or_no(answer: bool) -> &'static str
     ensures { result.now ≡ yes_or_no_of answer }
@@ -31,36 +76,43 @@ fn yes_or_no(answer: bool) -> &'static str
     if answer { "yes" } else { "no" }
 }
 
-impl fmt::Display for Line {
-    ghost use Rattle.std.specs.Prelude.{Some};
-    ghost use Rattle.reading.specs.Lines.{line_text};
+fn put_report(text: &mut ArrayString<TEXT>, r: Report)
+    requires { array_string_len text.old + 80 ≤ 10320 }
+    ensures bytes { text.new.bytes ≡ text.old.bytes ++ report_line r }
+    ensures len { array_string_len text.new ≤ array_string_len text.old + 80 }
+{
+    text.push_str("alarms ");
+    put_flags(text, r.zero);
+    put_flags(text, r.span);
+    text.push_str(" usable ");
+    text.push_str(yes_or_no(r.usable));
+    text.push_str("\n");
+}
 
-    ghost output = { λ line. Some (line_text line) };
-
-    fn fmt<W: fmt::Write>(&self, f: &mut fmt::Formatter<W>) -> fmt::Result {
-        match *self {
-            Line::Taken { number, count } => writeln!(f, "{number} taken {count}"),
+impl Line {
+    // A line has at most 80 bytes.
+    #[tactic(auto, unfolding(crate::specs::Lines::taken_line))]
+    pub fn put(self, text: &mut ArrayString<TEXT>)
+        requires { array_string_len text.old + 80 ≤ 10320 }
+        ensures bytes { text.new.bytes ≡ text.old.bytes ++ line_text self }
+        ensures len { array_string_len text.new ≤ array_string_len text.old + 80 }
+    {
+        match self {
+            Line::Taken { number, count } => {
+                put_number(text, number);
+                text.push_str(" taken ");
+                put_number(text, u64::from(count));
+                text.push_str("\n");
+            }
             Line::Stopped { number, row, place } => {
-                let row = row.number();
-                match place {
-                    Some(place) => writeln!(f, "{number} refused {row} {place}"),
-                    None => writeln!(f, "{number} refused {row} -"),
-                }
+                put_number(text, number);
+                text.push_str(" refused ");
+                put_number(text, u64::from(row.number()));
+                text.push_str(" ");
+                put_place(text, place);
+                text.push_str("\n");
             }
-            Line::Report(report) => {
-                let (zero, span) = (report.zero, report.span);
-                writeln!(
-                    f,
-                    "alarms {}{}{}{}{}{} usable {}",
-                    u8::from(zero.rising),
-                    u8::from(zero.falling),
-                    u8::from(zero.precision),
-                    u8::from(span.rising),
-                    u8::from(span.falling),
-                    u8::from(span.precision),
-                    yes_or_no(report.usable)
-                )
-            }
+            Line::Report(report) => put_report(text, report),
         }
     }
 }
