@@ -39,6 +39,23 @@ impl Write for Full {
     }
 }
 
+// Takes all, and counts how often it was asked.
+#[derive(Drop)]
+struct Counted {
+    writes: u32,
+}
+
+impl Write for Counted {
+    fn write(&mut self, buf: &[u8]) -> Result<usize> {
+        self.writes = self.writes.saturating_add(1);
+        Ok(buf.len())
+    }
+
+    fn flush(&mut self) -> Result<()> {
+        Ok(())
+    }
+}
+
 const SHORT: &[u8] = b"0 refused 1 -\nalarms 000000 usable no\n";
 
 const REFUSED: &[u8] = b"0 refused 2 -\nalarms 000000 usable no\n";
@@ -111,5 +128,15 @@ fn stops_at_a_failed_write(rt: HostRuntime) -> std::result::Result<(), Fail> {
     );
     assert_eq!(rt; input.left, 88);
     assert_eq!(rt; out.writes, 1);
+    Ok(())
+}
+
+// The lines of a piece are one write, and so is the report: who shares the output never stands within a line.
+#[test]
+fn writes_a_piece_and_the_report_at_once(rt: HostRuntime) -> std::result::Result<(), Fail> {
+    let mut input: &[u8] = &[0; 511];
+    let mut out = Counted { writes: 0 };
+    run(&mut input, &mut out)?;
+    assert_eq!(rt; out.writes, 2);
     Ok(())
 }
