@@ -1,5 +1,7 @@
 // Standard input that can be left where it was told to be: behind the block that was refused.
+use std::fs::Files;
 use std::io::{BufRead, Read, Result};
+use std::os::unix::fs::FileTypeExt;
 
 // The lock on standard input reads ahead only where the input has a position, and when it is dropped it goes back to the first byte that was not consumed.
 // So bytes that are given out here are consumed no sooner than more are asked for.
@@ -11,12 +13,21 @@ pub struct Source<B> {
     flows: bool,
 }
 
+// Whether standard input is a pipe or a socket, which have no position. It is asked before the first read: one that keeps packets apart drops what a read
+// leaves of a packet.
+pub fn is_stream(rt: &HostRuntime) -> bool {
+    match rt.metadata("/dev/stdin") {
+        Ok(input) => input.file_type().is_fifo() || input.file_type().is_socket(),
+        Err(_) => false,
+    }
+}
+
 impl<B: BufRead> Source<B> {
-    pub fn new(lock: B) -> Source<B> {
+    pub fn new(lock: B, flows: bool) -> Source<B> {
         Source {
             lock,
             given: 0,
-            flows: false,
+            flows,
         }
     }
 
