@@ -5,7 +5,9 @@ use charts::Chart;
 use records::State;
 use std::io;
 
-// What is kept of what a script prints.
+// What a script prints is kept up to the end of the line by which it is more than this; and the most that is kept.
+pub const ENOUGH: usize = 4096;
+
 const ROOM: usize = 8192;
 
 // The most pairs that a case has.

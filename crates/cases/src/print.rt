@@ -1,20 +1,22 @@
-// What a script prints, kept until its line is done, or there is no room.
+// What a script prints, kept until there is enough of it.
 use crate::desk::Desk;
 use arrayvec::ArrayString;
 use std::fmt::Write;
 use std::{io, mem};
 
 impl<R: Print> Desk<'_, R> {
-    // Writes what is kept.
-    pub fn hand_over(&mut self) -> io::Result<()> {
+    // Writes what is kept, where that is more than `enough`.
+    pub fn hand_over(&mut self, enough: usize) -> io::Result<()> {
         mem::replace(&mut self.written, Ok(()))?;
-        self.rt.write_all(self.out.as_slice())?;
-        self.out.clear();
+        if enough < self.out.len() {
+            self.rt.write_all(self.out.as_slice())?;
+            self.out.clear();
+        }
         Ok(())
     }
 
     fn write(&mut self, text: &[u8]) -> io::Result<()> {
-        self.hand_over()?;
+        self.hand_over(0)?;
         self.rt.write_all(text)
     }
 

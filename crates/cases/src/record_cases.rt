@@ -168,7 +168,7 @@ impl<R: Print> Desk<'_, R> {
     }
 }
 
-// Makes another of a byte, where there is one, and the other is one.
+// Makes a byte of a number, in the place of another. Whether there is such a place, and the number is a byte.
 pub fn set(bytes: &mut [u8], at: usize, byte: usize) -> bool {
     let Some(place) = bytes.get_mut(at) else {
         return false;

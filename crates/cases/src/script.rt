@@ -1,6 +1,6 @@
 // Runs the script on standard input, the file `stdin`, whose head says what its commands do. A line that is no command, or has other numbers than its
 // command takes, is answered by `unknown`.
-use crate::desk::Desk;
+use crate::desk::{Desk, ENOUGH};
 use crate::script_command::{Word, command_of};
 use arrayvec::ArrayVec;
 use std::io;
@@ -25,7 +25,7 @@ impl<R: Print> Desk<'_, R> {
     fn obey_lines(&mut self, script: &[u8]) -> io::Result<()> {
         for line in script.split(|b| *b == b'\n') {
             self.obey(line);
-            self.hand_over()?;
+            self.hand_over(ENOUGH)?;
         }
         Ok(())
     }
@@ -35,7 +35,7 @@ impl<R: Print> Desk<'_, R> {
         let mut above = 0usize;
         for line in script.split(|b| *b == b'\n') {
             let is_again = self.obey(line);
-            self.hand_over()?;
+            self.hand_over(ENOUGH)?;
             if is_again {
                 self.obey_lines(script.get(..above).unwrap_or(&[]))?;
             }
@@ -51,5 +51,7 @@ pub fn run(rt: &(impl Print + Input)) -> io::Result<()> {
     if script.is_full() {
         return rt.write_all(b"the script is too long\n");
     }
-    Desk::new(rt).obey_all(script.as_slice())
+    let mut desk = Desk::new(rt);
+    desk.obey_all(script.as_slice())?;
+    desk.hand_over(0)
 }
