@@ -5,7 +5,7 @@ use charts::Chart;
 use records::State;
 use std::io;
 
-// What a script prints is kept up to the end of the line by which it is more than this; and the most that is kept.
+// What a script prints is kept up to a line by which it is more than this; and the most that is kept.
 pub const ENOUGH: usize = 4096;
 
 const ROOM: usize = 8192;

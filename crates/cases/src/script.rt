@@ -11,21 +11,23 @@ const LIMIT: usize = 262144;
 
 impl<R: Print> Desk<'_, R> {
     // Whether the lines above are to be run again.
-    fn obey(&mut self, line: &[u8]) -> bool {
+    fn obey(&mut self, line: &[u8]) -> io::Result<bool> {
         let Some(command) = command_of(line) else {
             self.text(b"unknown\n");
-            return false;
+            return Ok(false);
         };
+        // What was printed is seen while a command takes long.
+        let is_long = command.count != 0 && matches!(command.word, Word::Apply | Word::Fill);
+        self.hand_over(if is_long { 0 } else { ENOUGH })?;
         if !self.obey_state(&command) {
             self.text(b"unknown\n");
         }
-        matches!(command.word, Word::Again)
+        Ok(matches!(command.word, Word::Again))
     }
 
     fn obey_lines(&mut self, script: &[u8]) -> io::Result<()> {
         for line in script.split(|b| *b == b'\n') {
-            self.obey(line);
-            self.hand_over(ENOUGH)?;
+            self.obey(line)?;
         }
         Ok(())
     }
@@ -34,9 +36,7 @@ impl<R: Print> Desk<'_, R> {
     fn obey_all(&mut self, script: &[u8]) -> io::Result<()> {
         let mut above = 0usize;
         for line in script.split(|b| *b == b'\n') {
-            let is_again = self.obey(line);
-            self.hand_over(ENOUGH)?;
-            if is_again {
+            if self.obey(line)? {
                 self.obey_lines(script.get(..above).unwrap_or(&[]))?;
             }
             above = above.saturating_add(line.len() + 1);
