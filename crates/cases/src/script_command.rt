@@ -203,6 +203,7 @@ impl<'a> Command<'a> {
             self.text = rest;
             return true;
         }
+        // Only a name may have other characters.
         if !kinds.starts_with('w') && !has_numbers_alone(rest) {
             return false;
         }
