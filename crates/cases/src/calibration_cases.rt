@@ -101,7 +101,7 @@ pub fn conditions_of(t: Number, p: Number, h: Number, o: Number) -> Conditions {
     }
 }
 
-impl Desk {
+impl<R: Print> Desk<'_, R> {
     // Commands that write a line of figures. Whether the command is one of them.
     pub fn obey_figures(&mut self, command: &Command) -> bool {
         let Some((head, tail, figures)) = self.figures(command) else {

@@ -16,7 +16,7 @@ fn applied(edition: u8, c: Chart, s: u16, d: i64) -> Chart {
     c.apply(edition, s, d)
 }
 
-impl Desk {
+impl<R: Print> Desk<'_, R> {
     // Commands on a chart and on the pairs that are listed. Whether the command is one of them, and was obeyed.
     pub fn obey_charts(&mut self, command: &Command) -> bool {
         match command.word {

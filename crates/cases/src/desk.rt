@@ -3,12 +3,12 @@ use arrayvec::ArrayVec;
 use calibration::{Conditions, Pair};
 use charts::Chart;
 use records::State;
+use std::io;
 
-// A script, and what it prints, is shorter than this.
-pub const LIMIT: usize = 262144;
+// What a script prints is kept up to a line by which it is more than this; and the most that is kept.
+pub const ENOUGH: usize = 4096;
 
-// Room for one text more.
-const ROOM: usize = 524288;
+const ROOM: usize = 8192;
 
 // The most pairs that a case has.
 pub const PAIRS: usize = 1000;
@@ -24,8 +24,11 @@ pub const TARGET: usize = 600;
 pub const FILL: u8 = 0xa5;
 
 #[derive(Drop)]
-pub struct Desk {
+pub struct Desk<'a, R> {
+    pub rt: &'a R,
     pub out: ArrayVec<u8, ROOM>,
+    // An error, where a text that had no room could not be written.
+    pub written: io::Result<()>,
     // The edition that is told.
     pub edition: u8,
     pub chart: Chart,
@@ -45,8 +48,8 @@ pub struct Desk {
     pub target: [u8; TARGET],
 }
 
-impl Desk {
-    pub fn new() -> Desk {
+impl<'a, R: Print> Desk<'a, R> {
+    pub fn new(rt: &'a R) -> Desk<'a, R> {
         let neutral = Conditions {
             temperature: 0,
             pressure: 0,
@@ -55,7 +58,9 @@ impl Desk {
         };
         let state = records::initial(0);
         Desk {
+            rt,
             out: ArrayVec::new(),
+            written: Ok(()),
             edition: 1,
             chart: charts::unstarted(),
             first: neutral,

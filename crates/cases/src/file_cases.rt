@@ -13,7 +13,7 @@ fn row_and_place(refused: Option<Refused>) -> [i128; 2] {
     }
 }
 
-impl Desk {
+impl<R: Print> Desk<'_, R> {
     // Commands on records that are listed and on the run. Whether the command is one of them, and was obeyed.
     pub fn obey_file(&mut self, command: &Command) -> bool {
         match command.word {
@@ -32,13 +32,21 @@ impl Desk {
                 };
                 self.form(Some(closing), command.d.size, command.e.size);
             }
-            Word::Take => return self.take(command.a.size),
-            Word::Poke => return set(self.run.as_flattened_mut(), command.a.size, command.b.byte),
-            Word::Seal => return self.seal(command.a.size),
-            Word::Bytes => return self.bytes(command.a.size, command.b.size),
+            Word::Take => self.take(command.a.size),
+            Word::Poke => {
+                if !set(self.run.as_flattened_mut(), command.a.size, command.b.size) {
+                    self.no_room();
+                }
+            }
+            Word::Seal => self.seal(command.a.size),
+            Word::Bytes => self.bytes(command.a.size, command.b.size),
             _ => return self.obey_charts(command),
         }
         true
+    }
+
+    fn no_room(&mut self) {
+        self.text(b" no room");
     }
 
     // The check of some bytes.
@@ -51,16 +59,19 @@ impl Desk {
     // The prepared record is listed.
     fn list(&mut self) {
         if self.list.try_extend_from_slice(&self.record).is_err() {
-            self.text(b" no room");
+            self.no_room();
         }
     }
 
     // A block of the listed records, but for their last `less` bytes, in a target of `size` bytes; or a closing after them, where there is one to make.
     fn form(&mut self, closing: Option<Closing>, size: usize, less: usize) {
         let list = self.list.as_slice();
-        let bytes = &list[..list.len().saturating_sub(less)];
+        if TARGET < size || list.len() < less {
+            return self.no_room();
+        }
+        let bytes = &list[..list.len() - less];
         let mut target = [FILL; TARGET];
-        let asked = &mut target[..size.min(TARGET)];
+        let asked = &mut target[..size];
         let refused = match closing {
             Some(closing) => file::make_closing(
                 self.state,
@@ -94,46 +105,41 @@ impl Desk {
         if is_closing {
             return self.record.copy_from_slice(&self.target[..40]);
         }
+        let Some(block) = self.run.get_mut(self.formed) else {
+            return self.no_room();
+        };
+        block.copy_from_slice(&self.target[..BLOCK]);
+        self.formed += 1;
         self.list.clear();
-        if let Some(block) = self.run.get_mut(self.formed) {
-            block.copy_from_slice(&self.target[..BLOCK]);
-            self.formed += 1;
-        }
     }
 
     // The first `size` bytes of the run.
-    fn take(&mut self, size: usize) -> bool {
+    fn take(&mut self, size: usize) {
         let Some(run) = self.run.as_flattened().get(..size) else {
-            return false;
+            return self.no_room();
         };
         let r = file::take(self.state, run);
         self.state = r.state;
         let [row, place] = row_and_place(r.ended.err());
         let figures = [r.blocks.into(), row, place, r.state.next.into()];
         self.print(b" blocks # refused # place # next #", &figures);
-        true
     }
 
     // A block of the run gets its check.
-    fn seal(&mut self, block: usize) -> bool {
+    fn seal(&mut self, block: usize) {
         let Some(block) = self.run.get_mut(block) else {
-            return false;
+            return self.no_room();
         };
         let check = file::check(&block[..510]);
         records::bytes::write16(block, 510, check);
-        true
     }
 
-    // Bytes of the target, in hexadecimal.
-    fn bytes(&mut self, from: usize, to: usize) -> bool {
+    // Bytes of the target, as far as there are such, in hexadecimal.
+    fn bytes(&mut self, from: usize, to: usize) {
         let target = self.target;
-        let Some(bytes) = target.get(from..to) else {
-            return false;
-        };
         self.text(b" ");
-        for byte in bytes {
+        for byte in target.get(from..to.min(TARGET)).unwrap_or(&[]) {
             self.print(b"%", &[(*byte).into()]);
         }
-        true
     }
 }

@@ -1,11 +1,29 @@
-// What a script prints, kept until it has ended.
+// What a script prints, kept until there is enough of it.
 use crate::desk::Desk;
 use arrayvec::ArrayString;
 use std::fmt::Write;
+use std::{io, mem};
 
-impl Desk {
+impl<R: Print> Desk<'_, R> {
+    // Writes what is kept, where that is more than `enough`.
+    pub fn hand_over(&mut self, enough: usize) -> io::Result<()> {
+        mem::replace(&mut self.written, Ok(()))?;
+        if enough < self.out.len() {
+            self.rt.write_all(self.out.as_slice())?;
+            self.out.clear();
+        }
+        Ok(())
+    }
+
+    fn write(&mut self, text: &[u8]) -> io::Result<()> {
+        self.hand_over(0)?;
+        self.rt.write_all(text)
+    }
+
     pub fn text(&mut self, text: &[u8]) {
-        let _ = self.out.try_extend_from_slice(text);
+        if self.out.try_extend_from_slice(text).is_err() {
+            self.written = self.write(text);
+        }
     }
 
     // A text with a number in each of its places: # is a place of any number, ? of one that is none where it is below 0,
@@ -19,9 +37,7 @@ impl Desk {
                         self.number(*byte, *n);
                     }
                 }
-                _ => {
-                    let _ = self.out.try_push(*byte);
-                }
+                _ => self.text(&[*byte]),
             }
         }
     }

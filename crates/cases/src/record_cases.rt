@@ -19,7 +19,7 @@ fn readings(c: Chart) -> i128 {
     if c.started { c.readings.into() } else { -1 }
 }
 
-impl Desk {
+impl<R: Print> Desk<'_, R> {
     // Commands on the state. Whether the command is one of them.
     pub fn obey_state(&mut self, command: &Command) -> bool {
         match command.word {
@@ -50,19 +50,14 @@ impl Desk {
                 self.text(command.text);
                 self.text(b":");
             }
-            Word::Record => return self.prepare(
-                command.a.byte,
-                command.b.byte,
-                command.c.unsigned,
-                command.list.as_slice(),
-            ),
-            Word::Byte => return set(&mut self.record, command.a.size, command.b.byte),
+            Word::Record => return self.prepare(command),
+            Word::Byte => return set(&mut self.record, command.a.size, command.b.size),
             Word::Try => self.attempt(command.text),
             Word::Apply => {
                 let times = if command.count == 0 {
                     1
                 } else {
-                    command.a.unsigned
+                    command.a.size
                 };
                 self.apply(times, command.b.unsigned);
             }
@@ -81,19 +76,20 @@ impl Desk {
         self.print(b": #\n", &[row.into()]);
     }
 
-    // The fields of a record stand from byte 8 on: four bytes of each, but eight of the intercept of a calibration closing. Whether
-    // they have room.
-    fn prepare(&mut self, kind: u8, mark: u8, minute: u32, fields: &[i64]) -> bool {
-        // Room for more fields than a list has.
-        let mut all = ArrayVec::<u8, 320>::new();
-        let [a, b, c, d] = minute.to_le_bytes();
-        let _ = all.try_extend_from_slice(&[kind, mark, 0, 0, a, b, c, d]);
-        for field in fields {
-            let size = if kind == 5 && all.len() == 16 { 8 } else { 4 };
-            let _ = all.try_extend_from_slice(&field.to_le_bytes()[..size]);
-        }
-        if 40 < all.len() {
+    // The fields of a record stand from byte 8 on: four bytes of each, but eight of the intercept of a calibration closing. What
+    // has no room is left out. Whether there are at most eight.
+    fn prepare(&mut self, command: &Command) -> bool {
+        let fields = command.list.as_slice();
+        if 8 < fields.len() {
             return false;
+        }
+        let mut all = ArrayVec::<u8, 88>::new();
+        let [a, b, c, d] = command.c.unsigned.to_le_bytes();
+        let _ = all.try_extend_from_slice(&[command.a.byte, command.b.byte, 0, 0, a, b, c, d]);
+        for field in fields {
+            let is_intercept = command.a.long == 5 && all.len() == 16;
+            let size = if is_intercept { 8 } else { 4 };
+            let _ = all.try_extend_from_slice(&field.to_le_bytes()[..size]);
         }
         let _ = all.try_extend_from_slice(&[0; 40]);
         if let Some(record) = all.as_slice().first_chunk::<40>() {
@@ -103,7 +99,7 @@ impl Desk {
     }
 
     // The record a number of times, each some minutes after the one before, up to the first that is refused.
-    fn apply(&mut self, times: u32, apart: u32) {
+    fn apply(&mut self, times: usize, apart: u32) {
         for _ in 0..times {
             match step(self.state, &self.record) {
                 Ok(after) => self.state = after,
@@ -172,9 +168,12 @@ impl Desk {
     }
 }
 
-// Makes another of a byte, where there is one.
-pub fn set(bytes: &mut [u8], at: usize, byte: u8) -> bool {
+// Makes a byte of a number, in the place of another. Whether there is such a place, and the number is a byte.
+pub fn set(bytes: &mut [u8], at: usize, byte: usize) -> bool {
     let Some(place) = bytes.get_mut(at) else {
+        return false;
+    };
+    let Ok(byte) = u8::try_from(byte) else {
         return false;
     };
     *place = byte;

@@ -59,10 +59,10 @@ pub enum Word {
 }
 
 // Each word, with what it takes behind it, and how many numbers it has at least. A t is the rest of the line as it is, a w a
-// name. Else a letter is the kind of a number: the bytes of an unsigned one, or i for one of 32 bits, n for one that is not
-// below 0, and l for any. I and L, which stand last, are a list of any number of i and l.
-static WORDS: [(&str, &str, usize, Word); 45] = [
-    ("", "", 0, Word::Comment),
+// name, which stands first. Else a letter is the kind of a number: the bytes of an unsigned one, or i for one of 32 bits, n for
+// one that is not below 0, l for any, and d for one of up to fifteen digits, which may be wider than what it is taken for. I and
+// D, which stand last, are a list of any number of i and d.
+static WORDS: [(&str, &str, usize, Word); 44] = [
     ("#", "t", 0, Word::Comment),
     ("again", "1", 1, Word::Again),
     ("edition", "1", 1, Word::Edition),
@@ -87,9 +87,9 @@ static WORDS: [(&str, &str, usize, Word); 45] = [
     ("case", "t", 0, Word::Case),
     ("try", "t", 0, Word::Try),
     ("new", "4", 1, Word::New),
-    ("record", "114L", 3, Word::Record),
+    ("record", "dddD", 3, Word::Record),
     ("byte", "n1", 2, Word::Byte),
-    ("apply", "44", 0, Word::Apply),
+    ("apply", "dd", 0, Word::Apply),
     ("keep", "", 0, Word::Keep),
     ("back", "", 0, Word::Back),
     ("expect", "4", 1, Word::Expect),
@@ -101,12 +101,12 @@ static WORDS: [(&str, &str, usize, Word); 45] = [
     ("check", "t", 0, Word::Check),
     ("list", "", 0, Word::List),
     ("clear", "", 0, Word::Clear),
-    ("form", "nn", 1, Word::Form),
-    ("make", "14inn", 4, Word::Make),
-    ("take", "n", 1, Word::Take),
-    ("poke", "n1", 2, Word::Poke),
-    ("seal", "n", 1, Word::Seal),
-    ("bytes", "nn", 2, Word::Bytes),
+    ("form", "dd", 1, Word::Form),
+    ("make", "14ddd", 4, Word::Make),
+    ("take", "d", 1, Word::Take),
+    ("poke", "dd", 2, Word::Poke),
+    ("seal", "d", 1, Word::Seal),
+    ("bytes", "dd", 2, Word::Bytes),
 ];
 
 // A number in the types that it may be wanted in: its lowest bytes, which are all of a number that fits.
@@ -140,6 +140,7 @@ fn fits(kind: u8, n: i128) -> bool {
         b'4' => (0, 0xffffffff),
         b'i' | b'I' => (-0x80000000, 0x7fffffff),
         b'n' => (0, 0xffffffffffffffff),
+        b'd' | b'D' => (-999999999999999, 999999999999999),
         _ => (-0x8000000000000000, 0x7fffffffffffffff),
     };
     least <= n && n <= most
@@ -174,7 +175,7 @@ impl<'a> Command<'a> {
             return false;
         }
         let number = number_of(n);
-        if kind == b'I' || kind == b'L' {
+        if kind == b'I' || kind == b'D' {
             return self.list.try_push(number.long).is_ok();
         }
         let at = self.count;
@@ -197,19 +198,26 @@ impl<'a> Command<'a> {
     }
 
     // Takes the rest of a line by the kinds of what it has. Whether that is so.
-    fn take_all(&mut self, kinds: &str, rest: &'a str) -> bool {
+    fn take_all(&mut self, kinds: &str, rest: &'a [u8]) -> bool {
+        if kinds == "t" {
+            self.text = rest;
+            return true;
+        }
+        // Only a name may have other characters.
+        if !kinds.starts_with('w') && !has_numbers_alone(rest) {
+            return false;
+        }
+        let Ok(rest) = str::from_utf8(rest) else {
+            return false;
+        };
         let mut kinds = kinds.as_bytes().iter();
         let mut kind = b' ';
         for word in rest.split_whitespace() {
-            if kind != b'I' && kind != b'L' {
+            if kind != b'I' && kind != b'D' {
                 let Some(next) = kinds.next() else {
                     return false;
                 };
                 kind = *next;
-            }
-            if kind == b't' {
-                self.text = rest.as_bytes();
-                return true;
             }
             if kind == b'w' {
                 self.text = word.as_bytes();
@@ -221,10 +229,27 @@ impl<'a> Command<'a> {
     }
 }
 
-// The row of a word: what it takes, how many numbers at least, and the word.
-fn row_of(text: &str) -> Option<(&'static str, usize, Word)> {
+// Whether nothing stands in the rest of a line but numbers, with spaces between them.
+fn has_numbers_alone(rest: &[u8]) -> bool {
+    rest.iter().all(|b| matches!(*b, b' ' | b'-' | b'0'..=b'9'))
+}
+
+// The first word of a line, and what follows the space behind it.
+fn first_word(line: &[u8]) -> (&[u8], &[u8]) {
+    match line.iter().position(|b| *b == b' ') {
+        Some(at) => (&line[..at], &line[at + 1..]),
+        None => (line, &[]),
+    }
+}
+
+// The row of a word: what it takes, how many numbers at least, and the word. None, and any that begins with #, are a comment's.
+fn row_of(text: &[u8]) -> Option<(&'static str, usize, Word)> {
+    let text = match text {
+        [] | [b'#', ..] => b"#".as_slice(),
+        _ => text,
+    };
     for (name, kinds, least, word) in &WORDS {
-        if *name == text {
+        if name.as_bytes() == text {
             return Some((*kinds, *least, *word));
         }
     }
@@ -233,10 +258,7 @@ fn row_of(text: &str) -> Option<(&'static str, usize, Word)> {
 
 // The command of a line. None where it is none, or has other numbers than its command takes.
 pub fn command_of(line: &[u8]) -> Option<Command<'_>> {
-    let Ok(line) = str::from_utf8(line) else {
-        return None;
-    };
-    let (name, rest) = line.split_once(' ').unwrap_or((line, ""));
+    let (name, rest) = first_word(line);
     let Some((kinds, least, word)) = row_of(name) else {
         return None;
     };
