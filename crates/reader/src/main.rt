@@ -5,7 +5,7 @@ mod progress;
 mod source;
 
 use progress::Watched;
-use source::{Source, is_stream};
+use source::Source;
 use std::env::{Env, FillError};
 use std::io::{self, IsTerminal};
 use std::process::ExitCode;
@@ -36,7 +36,7 @@ fn main(rt: HostRuntime) -> anyhow::Result<ExitCode> {
         );
     }
     let shows = rt.stderr().is_terminal() && !rt.stdout().is_terminal();
-    let mut input = Watched::new(Source::new(rt.reader(), is_stream(&rt)), &rt, shows);
+    let mut input = Watched::new(Source::new(&rt), &rt, shows);
     let told = reading::run(&mut input, &mut io::writer(&rt));
     input.clear();
     input.source.leave(match told {
