@@ -3,10 +3,7 @@ use std::fs::Files;
 use std::io::{BufRead, Input, Read, Result, StdinLock};
 use std::os::unix::fs::FileTypeExt;
 
-// How many locks there are, and how far they can go back together.
 const LOCKS: usize = 4;
-
-const BACK: usize = LOCKS * 4096;
 
 // A lock reads ahead, 4,096 bytes, only where the input has a position. When it is dropped it goes back by as many bytes as it was not told are consumed, wherever
 // the position is by then. So the first bytes of the input are read through the locks, which keep them for going back, and those behind them past the locks, no
@@ -15,8 +12,9 @@ const BACK: usize = LOCKS * 4096;
 pub struct Source<'a> {
     rt: &'a HostRuntime,
     locks: [StdinLock<'a>; LOCKS],
-    // How many bytes of each lock were given out, and which lock is next.
+    // How many bytes of each lock were given out, and of all together; and which lock is next.
     given: [usize; LOCKS],
+    kept: usize,
     next: usize,
     // The input has no position, as a pipe: a lock would read it byte by byte.
     flows: bool,
@@ -37,6 +35,7 @@ impl<'a> Source<'a> {
             rt,
             locks: [rt.reader(), rt.reader(), rt.reader(), rt.reader()],
             given: [0; LOCKS],
+            kept: 0,
             next: 0,
             flows: is_stream(rt),
         }
@@ -59,7 +58,7 @@ impl Read for Source<'_> {
             return self.rt.stdin().read(buf);
         }
         let Some(lock) = self.locks.get_mut(self.next) else {
-            let most = buf.len().min(BACK);
+            let most = buf.len().min(self.kept);
             return self.rt.stdin().read(&mut buf[..most]);
         };
         let there = lock.fill_buf()?;
@@ -67,6 +66,7 @@ impl Read for Source<'_> {
         let count = rest.len().min(buf.len());
         buf[..count].copy_from_slice(&rest[..count]);
         self.given[self.next] += count;
+        self.kept = self.kept.saturating_add(count);
         self.flows = there.len() == 1;
         if count == rest.len() {
             self.next += 1;
